@@ -1,7 +1,7 @@
-//! The calls of the crates below the engines, on worked rows that name them: what dictionaries,
-//! patterns, cells, counts and tries give of small inputs, and cells beside a slow list of
-//! families. Real files and sinks are tried here too, and those whose calls end early or fail, as a
-//! list says.
+//! The calls of the crates below the engines, on worked rows that name them. The rows say what
+//! dictionaries, patterns, cells, counts and tries give of small inputs. Cells are tried beside a
+//! slow list of families. Real files and sinks are tried here too, and those whose calls end early
+//! or fail, as a list says.
 //!
 //! It stands on the lowest crates alone, so the gate can prove it early. Tests that need an engine,
 //! the driver or the program are in pg_runs, and whole calls are rows of patgen_rows.

@@ -33,8 +33,8 @@ use pg_types::{FEW_SIGNS, Sign};
 use std::alloc::{AllocError, Global};
 use std::marker::Model;
 
-/// There is room for so many cells from the start, so that the cells of a long list are in a block
-/// of their own, which the system makes longer in its place. What no cell needs stays untouched.
+/// There is room for this many cells from the start. So the cells get a block of their own, which
+/// the system lengthens in its place. Memory that no cell needs is never touched.
 const CELLS_AT_FIRST: usize = 1 << 18;
 
 /// The cells. Cell 0 is never taken.
@@ -47,12 +47,14 @@ pub struct Store<V: Copy> {
     taken_set: BitSet,
     /// The bases of families, a bit for each.
     bases: BitSet,
-    /// For each sign a bound. No base below it can be taken, since the base or the cell of the sign
-    /// is taken.
+    /// A bound for each sign. Each base below it is that of a family, or the sign's cell there is
+    /// taken, unless one of the two was given up since.
     lows: Vec<u32>,
-    /// The least cell that was given up since the bounds were lowered last.
+    /// The least cell that was given up since the bounds were lowered last, `usize::MAX` where none
+    /// was. It is 0 at the start, and where all cells were given up.
     freed: usize,
-    /// The least base that was given up since the bounds were lowered last.
+    /// The least base that was given up since the bounds were lowered last, `usize::MAX` where none
+    /// was. It is 0 at the start.
     dropped: usize,
     /// The base of the family that was placed last, 0 where a cell or a base was given up since.
     placed: usize,
@@ -173,7 +175,7 @@ impl<V: Copy> Store<V> {
         set_value(self.cells.as_mut_slice(), cell, value);
     }
 
-    /// Says whether a cell's index is the base of a family.
+    /// Sets whether a cell's index is the base of a family.
     pub fn set_base(&mut self, cell: usize, is_base: bool)
         requires { cell < length self.old.signs }
         ensures sets { SetsBase self.old self.new cell is_base }
@@ -223,8 +225,8 @@ impl<V: Copy> Store<V> {
         self.placed = 0;
     }
 
-    /// Gives up all cells and bases. At least so many cells stay. The memory of what goes beyond
-    /// that of the start is given back.
+    /// Gives up all cells and bases, and the memory beyond that of the start. At least `least`
+    /// cells stay, each of them free.
     pub fn clear(&mut self, least: usize)
         requires some { 0 < least }
         requires within { least ≤ length self.old.signs }
@@ -258,8 +260,8 @@ impl<V: Copy> Store<V> {
         grow_cells(&mut self.cells, count, value)
     }
 
-    /// Makes room past the greatest taken cell: `more` cells. Refused: the cells that were there
-    /// are as before.
+    /// Makes room for `more` cells from the greatest taken one on, which is counted too. Refused:
+    /// the cells that were there are as before.
     pub fn make_room(&mut self, more: usize, value: V) -> Result<(), AllocError>
         requires { more < CELLS_END }
         ensures extends { Extends self.old self.new }
@@ -271,14 +273,16 @@ impl<V: Copy> Store<V> {
         self.grow(count, value)
     }
 
-    /// The bound of a sign: no base below it is free with the sign's cell.
+    /// The bound of a sign. Each base below it is that of a family, or the sign's cell there is
+    /// taken.
     pub fn bound(&self, sign: Sign) -> usize
         ensures { (b : ℕ) → 0 < b → b < result → NoneFree self.now sign b }
     {
         bound_of(self.lows.as_slice(), self.freed, self.dropped, sign)
     }
 
-    /// Raises the bound of a sign to a base, where none below it is free with the sign's cell.
+    /// Raises the bound of a sign to a base. Each base below has to be that of a family, or the
+    /// sign's cell there has to be taken.
     pub fn raise_bound(&mut self, sign: Sign, base: usize)
         requires base { base < length self.old.signs }
         requires none { (b : ℕ) → 0 < b → b < base → NoneFree self.old sign b }
@@ -290,8 +294,8 @@ impl<V: Copy> Store<V> {
         self.dropped = usize::MAX;
     }
 
-    /// Where the search for the family at `base` began; `base` itself if that is not remembered.
-    /// The bases from there up to `base` cannot take this family.
+    /// Where the search for the family at `base` began, or `base` if that is not known. No base
+    /// from there on and below `base` can take this family.
     pub fn sought_from(&self, base: usize) -> usize
         ensures { AreBlocked self.now base result }
     {
@@ -311,8 +315,8 @@ impl<V: Copy> Store<V> {
         self.sought = low;
     }
 
-    /// The least base from `low` on at which the sign and those of the slots may stand. At `room`
-    /// they may stand.
+    /// The least base from `low` on at which the sign and those of the slots may stand. `room` is a
+    /// base at which they may stand.
     pub fn find_base(&self, slots: &[Slot<Member<V>>], sign: Sign, low: usize, room: usize) -> usize
         requires low { low ≤ room }
         requires room { HasSpace self.now slots.now sign room }
@@ -354,7 +358,7 @@ fn taken_up_to<V: Copy>(cells: &[Cell<V>], cell: usize) -> usize
     at
 }
 
-// Adds free cells until there are `count`, as long as an index fits its link.
+// Adds free cells until there are `count`. It fails where an index would not fit in a link.
 fn grow_cells<V: Copy>(cells: &mut Vec<Cell<V>>, count: usize, value: V) -> Result<(), AllocError>
     requires linked { AreLinked (linked_row cells.old.items) }
     requires small { length cells.old.items < CELLS_END }

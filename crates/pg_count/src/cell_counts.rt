@@ -17,10 +17,10 @@ use std::marker::Model;
 
 /// The windows that are counted in a pass, each with its sums of good and bad weights.
 ///
-/// A window's signs lead from cell to cell, as far as another window begins alike. The last cell
-/// has the window's number, by which its signs and its two sums are found in lists. So the cells
-/// keep only what branches. The signs of a window tell whether its rest is the same. The memory of
-/// the cells and of the lists stays for later passes.
+/// A window's signs lead from cell to cell, as far as another window begins with the same signs.
+/// The last cell has the window's number, by which its signs and its two sums are found in lists.
+/// So the cells keep only what branches. The rest of a window is compared with its signs in the
+/// list. The memory of the cells and of the lists stays for later passes.
 #[derive(Drop)]
 pub struct CellCounts {
     cells: CountedCells,

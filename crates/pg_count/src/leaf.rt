@@ -13,9 +13,9 @@ use crate::walks::way::Way;
 use pg_types::Sign;
 use std::alloc::AllocError;
 
-// Moves the tally with the number down from the end of a new window's way, sign by sign, as far as
-// the new window and the window with the number begin alike. Gives the new window's way after that.
-// Refused: the tally may have been moved down in part.
+// Moves the tally of the counted window `number` down, sign by sign, from the end of a new window's
+// way to where the two part. Gives the new window's way up to there. Refused: the tally may have
+// moved only some of the steps.
 fn part(
     cells: &mut CountedCells,
     windows: &WindowList,

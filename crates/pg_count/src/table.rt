@@ -1,5 +1,5 @@
-//! Short windows, each with an entry of its own in a table: the entry, which windows are short, and
-//! what is counted.
+//! Short windows, counted in a table with an entry for each: where the entry lies, which windows
+//! are short, and the counts.
 pub mod above;
 pub mod index;
 pub mod numbers;

@@ -49,9 +49,9 @@ impl Dictionary {
     /// Reads a dictionary file under a table, in one pass.
     ///
     /// A file of more than [`FILE_MAX`](pg_types::FILE_MAX) bytes is refused 403. In any other, the
-    /// first refused place, from line to line and left to right, is refused 401, 402 or 404: a byte
-    /// that begins no item, or the 101st letter of a line. The rules are patgen's, with weights in
-    /// braces and don't-care marks besides.
+    /// first refused place, from line to line and left to right, is refused 401, 402 or 404. Such a
+    /// place is a byte that begins no item, or the 101st letter of a line. The rules are patgen's,
+    /// with weights in braces and don't-care marks besides.
     pub fn read(alloc: Global, table: &Table, bytes: &[u8]) -> Result<Dictionary, ReadingError>
         ensures words { Gives (λ dictionary. dictionary) result (words table.now bytes.now) }
         ensures signs { IfOk result (SignsAtMost (alphabet.letters_of table.now + 1)) }

@@ -81,8 +81,8 @@ fn choose_one<E: Engine>(
     }
 }
 
-/// Does with each candidate of a pass, in the order of signs, what was decided of its number. Some
-/// candidates at a time are looked at in `seen`, whose memory stays for later passes.
+/// Chooses, gives up or leaves each candidate of a pass, in the order of signs, as was decided for
+/// its number. Several at a time are read into `seen`, whose memory stays for later passes.
 pub fn choose_all<E: Engine>(
     engine: &mut E,
     params: &LevelParams,

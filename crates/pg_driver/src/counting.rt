@@ -36,9 +36,9 @@ use std::alloc::{AllocError, Global};
 #[derive(Drop)]
 pub enum WayToCount {
     /// At the open positions: words are hyphenated at the start of the first such level alone. This
-    /// is exact where no pattern has a value of the level or more then.
+    /// is exact where no pattern has a value as great as the level when the level begins.
     Open(OpenLevel),
-    /// At the positions of each word, which is hyphenated in each pass, and at no other moment.
+    /// At the positions of each word, which is hyphenated anew in each pass.
     EachWord(WordLevel),
 }
 
@@ -54,8 +54,8 @@ impl WayToCount {
     /// of the level or more. `greatest` is the greatest value of the starting patterns.
     ///
     /// Where the level before was over open positions, those of the level follow from what is left
-    /// of them: a position with care counts at just one of two levels that follow one another. No
-    /// word is hyphenated then.
+    /// of them. This is so since a position with care counts at just one of two levels that follow
+    /// one another. No word is hyphenated then.
     pub fn begin_level<E: Engine>(
         &mut self,
         alloc: Global,
@@ -89,8 +89,9 @@ impl WayToCount {
         Ok(())
     }
 
-    /// Counts the windows of a pass that has begun, and gives the totals before it. Each position
-    /// that is kept has the number of its window.
+    /// Counts the windows of a pass that has begun, and gives the totals before it. `windows` gets
+    /// the number of the window of each position that is listed, or at which the dot of the pass is
+    /// open.
     pub fn count<E: Engine>(
         &mut self,
         engine: &mut E,
@@ -127,9 +128,9 @@ impl WayToCount {
         }
     }
 
-    /// Takes in what was chosen in a pass: the open positions have dots closed, and the totals are
-    /// carried on. A position whose value is above the level keeps its value, so its weight is left
-    /// out of what was chosen. No window is looked up. It takes no memory.
+    /// Takes in the choices of a pass: closes dots of open positions, and carries the totals on. A
+    /// position whose value is above the level keeps its value, so its weight is left out of what
+    /// was chosen. No window is looked up. It takes no memory.
     pub fn after_choices<E: Engine>(
         &mut self,
         engine: &E,
@@ -192,7 +193,8 @@ impl WayToCount {
         Ok(())
     }
 
-    /// The totals that are carried. No word is hyphenated for them.
+    /// The totals by the patterns as they are now, where a pass was counted. No word is hyphenated
+    /// for them.
     pub fn totals(&self) -> Totals
         ensures { result ≡ totals_carried self.now }
     {

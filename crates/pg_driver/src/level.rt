@@ -123,7 +123,7 @@ fn run_or_skip<E: Engine>(
     Ok(())
 }
 
-/// Does the passes of a length, dot by dot, but those that can be skipped.
+/// Does the passes of a length, dot by dot, except those that can be skipped.
 fn run_length<E: Engine>(
     engine: &mut E,
     dictionary: &Dictionary,
@@ -175,7 +175,7 @@ fn run_length<E: Engine>(
     Ok(())
 }
 
-/// Does all passes of a level, length by length, but those that can be skipped.
+/// Does all passes of a level, length by length, except those that can be skipped.
 fn run_lengths<E: Engine>(
     engine: &mut E,
     dictionary: &Dictionary,

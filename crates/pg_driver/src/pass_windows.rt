@@ -34,7 +34,8 @@ pub struct WordPosition {
 /// What a pass keeps of its windows. The memory stays from pass to pass.
 #[derive(Drop)]
 pub struct PassWindows {
-    /// The number of the window of each position that is kept, in the order of these positions.
+    /// The number of the window of each position that is listed, or at which the dot of the pass is
+    /// open, in the order of these positions.
     pub numbers: Vec<u32>,
     /// The numbers in the order of signs.
     pub order: Vec<u32>,

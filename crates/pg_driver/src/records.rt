@@ -55,7 +55,7 @@ pub struct LevelRecord {
     pub layout: Option<Layout>,
 }
 
-/// The records of a run that is not at its end.
+/// The records of a run that goes on.
 #[derive(Drop)]
 pub struct Records {
     passes: Vec<PassRecord>,

@@ -14,8 +14,9 @@ use pg_select::{Engine, WordState};
 use pg_translate::Table;
 use pg_types::Totals;
 
-/// The totals of the words of a dictionary by the patterns of an engine: the sums of the weights of
-/// the positions in reach that are found, that are errors and that are missed. It takes no memory.
+/// The totals of the words of a dictionary by the patterns of an engine. They are the sums of the
+/// weights of the positions in reach that are found, that are errors and that are missed. It takes
+/// no memory.
 pub fn totals<E: Engine>(engine: &E, dictionary: &Dictionary, table: &Table) -> Totals
     requires { SignsAtMost (E.meaning engine.now).signs dictionary.now }
     ensures value { result
@@ -30,7 +31,7 @@ pub fn totals<E: Engine>(engine: &E, dictionary: &Dictionary, table: &Table) -> 
     sums
 }
 
-/// The totals with the positions of a word more. What `found` holds does not matter.
+/// The totals with the positions of one more word. What `found` holds does not matter.
 fn add_word<E: Engine>(
     engine: &E,
     table: &Table,

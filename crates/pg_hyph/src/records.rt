@@ -11,8 +11,8 @@ use pg_outputs::Outputs;
 use pg_select::{Pass, WordState};
 use pg_trie::HOPELESS;
 
-/// Raises the values and covers of a word by the values and hopeless entries of the list at `head`,
-/// that of a string of `len` signs which stands in the word from `start` on.
+/// Raises the values and covers of a word by the values and hopeless entries of the list at `head`.
+/// The list is that of a string of `len` signs, which stands in the word from `start` on.
 pub fn raise_by_list(
     outputs: &Outputs,
     head: u64,

@@ -10,9 +10,9 @@ use pg_dict::WordRef;
 use pg_select::{Pass, WordState};
 use pg_trie::PatternTrie;
 
-/// The value of each position of a word by the patterns of a trie, and for each position whose
-/// window of the pass fits in the word, whether that window is covered by the patterns and the
-/// hopeless entries. Nothing is said of the cover of other positions. It takes no memory.
+/// The value of each position of a word by the patterns of a trie. Where the window of the pass at
+/// a position fits in the word, it also says whether the patterns and the hopeless entries cover
+/// that window. Nothing is said of the cover of other positions. It takes no memory.
 pub fn hyphenate(
     trie: &PatternTrie,
     w: WordRef<'_>,

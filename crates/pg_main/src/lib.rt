@@ -48,11 +48,12 @@ pub fn arguments_after_name(alloc: Global, arguments: Args) -> Result<Vec<String
 
 /// The exit code of a program that was handed these arguments, or that got none for this reason.
 ///
-/// It is that of the answer of a call of `run` on these arguments: 0 where all went well, 1 for a
-/// file that is not the wanted one, 2 where the arguments are no command, 3 for a refused file, 4
-/// for a file that could not be read or written, and 5 where memory was short. Where there are no
-/// arguments, it is 5 if there was no memory for them and 6 if the system gave none. Neither
-/// `files` nor `out` is called then. The observer is told of the call and of its answer.
+/// It is that of the answer of a call of `run` on these arguments. The code 0 says that all went
+/// well, 1 that a file is not the wanted one, and 2 that the arguments are no command. The code 3
+/// says that a file is refused, 4 that a file could not be read or written, and 5 that memory was
+/// short. Where there are no arguments, it is 5 if there was no memory for them and 6 if the system
+/// gave none. Neither `files` nor `out` is called then. The observer is told of the call and of its
+/// answer.
 pub fn status_of<F: Files, O: Sink, L: Listen>(
     alloc: Global,
     arguments: Result<Vec<String>, NoArguments>,

@@ -197,8 +197,8 @@ impl<'a, C: Clock, E: Write + Drop> Messages<'a, C, E> {
     }
 
     /// If the answer was a fault, puts on standard error why a file could not be read or written,
-    /// or a line could not be put: the reason of the system, and what was done before with the same
-    /// file.
+    /// or a line could not be put. It gives the reason of the system, and says what was done before
+    /// with the same file.
     pub fn put_fault<S: SameFile>(&self, reasons: &Reasons<'_>, same: &S) {
         if !self.fault.get() {
             return;

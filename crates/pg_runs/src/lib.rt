@@ -1,7 +1,8 @@
-//! What no table of rows can say: runs of the driver beside a run that skips no pass, and over both
-//! engines; the values that both engines give; the windows that a pass counts; a call of the
-//! program over files that never fail; calls over a disk that stops or fails at each of its calls
-//! in turn; and the statuses of the program. All other calls are rows of patgen_rows.
+//! What no table of rows can say. Runs of the driver are made beside a run that skips no pass, and
+//! over both engines. The values that both engines give are compared, and the windows that a pass
+//! counts are tried. A call of the program is made over files that never fail, and calls are made
+//! over a disk that stops or fails at each of its calls in turn. The statuses of the program are
+//! tried too. All other calls are rows of patgen_rows.
 //!
 //! What files and sinks do whose calls fail, and the calls of the crates below the engines, are
 //! tried in pg_calls.

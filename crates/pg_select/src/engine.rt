@@ -15,8 +15,9 @@ use pg_patterns::PatternSet;
 use pg_types::{Cursor, Layout, Sign, Weight};
 use std::alloc::{AllocError, Global};
 
-/// What the levels and passes of a run are made over: patterns that give values to positions,
-/// hopeless dotted strings that cover longer windows, and the counts of the windows of a pass.
+/// What the levels and passes of a run are made over. It holds patterns that give values to
+/// positions, hopeless dotted strings that cover longer windows, and the counts of the windows of a
+/// pass.
 ///
 /// A run begins each pass, counts the windows of the positions that count, and chooses some of the
 /// counted windows and gives up others. It hyphenates each word once in each pass of the levels up

@@ -69,7 +69,7 @@ pub fn nothing_counts_later()
     ensures later { CountsNothingLater }
 {}
 
-/// A position that is not counted with a window is not counted with a longer one, so where a pass
+/// A position that is not counted with a window is not counted with a longer one. So where a pass
 /// counts nothing, the passes that are longer by a sign, with the same dot or the next, count
 /// nothing.
 pub fn nothing_counts_longer()

@@ -18,8 +18,8 @@ pub record CommandRule : Type 1 where
   -- what it promises, where it is done, of the files that it reads and of what it comes to
   pub promise : HeldFiles → Outcome → Type 0
 
--- what a rule has where it says nothing else: nothing is read, written or promised, the answer is
--- done, refused or a lack of memory, and the outcome is not known, so each command says its own
+-- what a rule has where it says nothing else: nothing is read, written or promised, and the answer
+-- is done, refused or a lack of memory. The outcome is not known, so each command says its own
 abbrev pub usual_rule : CommandRule
 usual_rule = let all = Done ∷ Refused ∷ Memory ∷ [] in
     let none : HeldFiles → Outcome = λ _. Unknown in

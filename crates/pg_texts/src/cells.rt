@@ -22,7 +22,7 @@ fn layout_of(layout: Option<Layout>) -> Layout
     }
 }
 
-/// Appends how many cells are used, and the greatest of them.
+/// Appends how many cells are taken, and the greatest of them.
 fn push_used(text: &mut Vec<u8>, layout: &Layout) -> Result<(), AllocError>
     ensures { OnOk result
         (text.new.items ≡ text.old.items ++ cells.taken_text layout.now.taken layout.now.top) }
@@ -94,9 +94,9 @@ fn push_levels(
     Ok(())
 }
 
-/// The cells file of a run whose layouts are all there: the layout before the first level, then for
-/// each pass that has a candidate how many cells are used and the greatest of them, and the layout
-/// after each level.
+/// The cells file of a run whose layouts are all there. The layout before the first level comes
+/// first. Then each level has its passes that have a candidate, each with how many cells are taken
+/// and the greatest of them. Behind these passes is the layout after the level.
 pub fn cells_text(alloc: Global, run: &Run) -> Result<Vec<u8>, AllocError>
     requires { HasLayouts run.now }
     ensures told { IfOk result (λ text. text.items ≡ cells.account_cells_text (run_cells run.now)) }

@@ -12,9 +12,9 @@ use pg_select::{Engine, WordState};
 use pg_translate::Table;
 use std::alloc::{AllocError, Global};
 
-/// The hyphenated list: the words that take part, in the order of the dictionary, each with the
-/// marks of its positions by the patterns of the engine, and with the weights that differ from
-/// those before them.
+/// The hyphenated list: the words that take part, in the order of the dictionary. Each has the
+/// marks of its positions by the patterns of the engine, and the weights that differ from those
+/// before them.
 ///
 /// If it has at most [`FILE_MAX`](pg_types::FILE_MAX) bytes, it is a dictionary file of these
 /// words, under the same table, with their hyphens, their cares and all their weights. Each word is

@@ -116,9 +116,9 @@ fn push_levels(
     Ok(())
 }
 
-/// The report of a run, where `largest` is the greatest starting value: a warning where that is not
-/// below the first level that is run, a line for each pass that has a candidate and for each level,
-/// and the totals with their rates.
+/// The report of a run. `largest` is the greatest starting value; a warning comes first where it is
+/// not below the first level that is run. Then comes a line for each pass that has a candidate and
+/// for each level. The totals with their rates are at the end.
 pub fn report_text(
     alloc: Global,
     largest: u8,

@@ -20,7 +20,7 @@ pub record IsRun {F : Type 0} (asked : Option Request) (status : Status)
   pub promised : status ≡ Done → OfFiles old new (λ before after.
       (rule_of asked).promise (file_at before) (outcome_of (file_at before) (rule_of asked)))
   -- no file is read, as for arguments that are no command and for `sample`: the files stay as they
-  -- are, and the lines are those of the rule, also where files do not tell what they hold
+  -- are. The lines are those of the rule, also where files do not tell what they hold
   pub unread : (rule_of asked).reads ≡ [] → (after ≡ before)
       × IsKnown ((rule_of asked).own_outcome (λ _. None)) (λ wanted writing lines.
       (status ≡ wanted → WasPut old.1.text new.1.text lines)

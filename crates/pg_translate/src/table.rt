@@ -126,8 +126,9 @@ impl Table {
         }
     }
 
-    /// The first and the last position in reach of a word of so many signs, its edges included;
-    /// none where such a word takes no part, as it has fewer letters than both minima together.
+    /// The first and the last position in reach of a word of so many signs, its edges included.
+    /// There is none where such a word takes no part, as it has fewer letters than both minima
+    /// together.
     pub fn reach(&self, signs: usize) -> Option<(usize, usize)>
         requires low { 2 ≤ signs }
         requires high { signs ≤ WORD_LETTERS_MAX + 2 }

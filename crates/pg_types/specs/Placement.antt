@@ -1,7 +1,7 @@
 -- Where the families of a trie lie in one row of cells. The signs that follow one prefix are a
 -- family. It has a base, and its sign s has the cell base + s. A placement is the list of the
 -- families in the order of their prefixes. A base is sought from a lowest one on, which the number
--- of signs and the greatest used cell give.
+-- of signs and the greatest taken cell give.
 use Rattle.std.specs.Prelude.{ℕ, suc, zero, ◌+◌, ◌-◌, max, Bool, true, false, if◌then◌else◌, not, ◌&&◌, ◌||◌, nat_eq, nat_lt, nat_le, List, [], ◌∷◌, ◌++◌, length, map, filter, fold, Option, Some, None}
 use Rattle.std.specs.List.{flat_map, list_any, list_all, range_with_len, starts_with}
 use Rattle.std.specs.Ordering.{nat_cmp, eq_by_cmp}
@@ -29,15 +29,15 @@ abbrev pub without_family : Families → List ℕ → Families
 without_family fs p = where_key (slice_cmp nat_cmp)
     (λ q. not (eq_by_cmp (slice_cmp nat_cmp) p q)) fs
 
--- the used cells, family by family
+-- the taken cells, family by family
 abbrev pub used_cells : Families → List ℕ
 used_cells fs = flat_map (λ e. map (λ s. e.1.base + s) e.1.signs) fs
 
--- the number of used cells
+-- the number of taken cells
 abbrev pub taken_count : Families → ℕ
 taken_count fs = length (used_cells fs)
 
--- the greatest used cell
+-- the greatest taken cell
 abbrev pub top : Families → ℕ
 top fs = fold max 0 (used_cells fs)
 
@@ -49,11 +49,11 @@ is_used fs cell = list_any (nat_eq cell) (used_cells fs)
 abbrev pub is_base : Families → ℕ → Bool
 is_base fs b = list_any (λ e. nat_eq b e.1.base) fs
 
--- whether signs may stand at the base: no family has it, and their cells are unused
+-- whether signs may stand at the base: no family has it, and their cells are free
 abbrev pub fits_at : Families → List ℕ → ℕ → Bool
 fits_at fs signs b = not (is_base fs b) && list_all (λ s. not (is_used fs (b + s))) signs
 
--- the lowest base tried for so many signs, in a table of n signs; t is the greatest used cell
+-- the lowest base tried for so many signs, in a table of n signs; t is the greatest taken cell
 abbrev pub lowest_base : ℕ → ℕ → ℕ → ℕ
 lowest_base n count t = if nat_le count FEW_SIGNS then 1 else max 1 (t - max FAR_BELOW n)
 

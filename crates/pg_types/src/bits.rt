@@ -1,4 +1,4 @@
-//! Rows of bits, 64 of them in a number.
+//! Rows of bits, kept in numbers of 64 bits.
 ghost use Rattle.std.specs.Prelude.{◌≡◌, ◌<◌, ◌*◌, ◌+◌, ◌||◌, ◌&&◌, ◌==◌, ℕ, not, length, slice_index};
 ghost use Rattle.std.specs.Int.{bit_at};
 ghost use Rattle.pg_types.specs.Inside.Bits.{has_bit};
@@ -42,7 +42,7 @@ pub fn bits_from(row: &[u64], i: usize) -> u64
     number_at(row, at) >> bit | number_at(row, at + 1) << 1 << (NUMBER_BITS - 1 - bit)
 }
 
-// A number of a row, 0 past the end.
+// The number at an index of a row; 0 past the end.
 #[inline]
 fn number_at(row: &[u64], at: usize) -> u64
     ensures { result ≡ slice_index row.now at }

@@ -40,10 +40,10 @@ pub const PATTERN_SIGNS_MAX: usize = 32;
 pub const NUMBERS_END: u32 = u32::MAX;
 
 /// In the pattern trie a family of up to so many signs is placed from base 1 on, and a greater one
-/// near the greatest used cell.
+/// near the greatest taken cell.
 pub const FEW_SIGNS: usize = 4;
 
-/// The search for the base of a greater family begins this far below the greatest used cell. It
+/// The search for the base of a greater family begins this far below the greatest taken cell. It
 /// begins farther below where the table has more signs than this.
 pub const FAR_BELOW: usize = 255;
 

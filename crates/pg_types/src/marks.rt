@@ -29,9 +29,9 @@ pub struct Totals {
 /// The numbers of a layout of packed cells.
 #[derive(Clone, Copy, Debug, PartialEq, Eq)]
 pub struct Layout {
-    /// How many cells are used.
+    /// How many cells are taken.
     pub taken: u64,
-    /// The greatest used cell.
+    /// The greatest taken cell.
     pub top: u64,
     /// How many distinct non-empty suffixes the output lists have.
     pub tails: u64,

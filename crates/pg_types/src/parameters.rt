@@ -87,10 +87,10 @@ impl Params {
     }
 }
 
-/// Reads a file of parameters: `start finish`, then for each level that is run `pat_start
-/// pat_finish good_wt bad_wt thresh`, and then perhaps the answer `y`, `Y`, `n` or `N` of patgen's
-/// last question, which has no effect. Items stand between blanks, TABs, CRs and LFs, in the order
-/// in which patgen asks for them.
+/// Reads a file of parameters. It has `start finish`, and then `pat_start pat_finish good_wt bad_wt
+/// thresh` for each level that is run. Behind them it may have the answer `y`, `Y`, `n` or `N` of
+/// patgen's last question, which has no effect. Items stand between blanks, TABs, CRs and LFs, in
+/// the order in which patgen asks for them.
 ///
 /// The first item that fails its demand is refused, with its number as the line.
 pub fn read_params(alloc: Global, bytes: &[u8]) -> Result<Params, ReadingError>

@@ -1,5 +1,5 @@
-//! Texts for a terminal: a few whole lines in which no byte of a file or name is a control byte,
-//! and a line of a file with a caret below a place of it.
+//! Texts for a terminal: a few whole lines, and a line of a file with a caret below a place of it.
+//! No byte of a file or name stands in them as a control byte.
 #![tactic(auto)]
 
 mod excerpts;

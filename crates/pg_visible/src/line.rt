@@ -252,9 +252,9 @@ impl Line {
     }
 }
 
-/// Bytes of a name or a file as a line shows them: text as it is, and each byte that is no text, or
-/// of a character that cannot be seen, by its number, as `<0D>`. Of more than `most` bytes only the
-/// first are shown.
+/// Bytes of a name or a file as a line shows them. Text is shown as it is. Each byte that is no
+/// text, or of a character that cannot be seen, is shown by its number, as `<0D>`. Of more than
+/// `most` bytes only the first are shown.
 pub fn visible(alloc: Global, bytes: &[u8], most: usize) -> Result<Vec<u8>, AllocError>
     ensures { IfOk result (λ shown. list_all is_printable_byte shown.items ≡ true) }
 {

@@ -59,8 +59,8 @@ fn are_taken(inputs: &[&str], outputs: &[&str]) -> bool
     are_all_names(inputs, outputs) && do_outputs_differ(outputs, inputs)
 }
 
-/// A command, where the names of its inputs and outputs are taken: each can be a name, and each
-/// output name differs from the names of the other outputs and of the inputs.
+/// A command, where the names of its inputs and outputs are taken. That is, each can be a name, and
+/// each output name differs from the names of the other outputs and of the inputs.
 pub fn where_taken<'a>(
     inputs: &[&str],
     outputs: &[&str],

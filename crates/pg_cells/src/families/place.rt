@@ -14,8 +14,8 @@ use crate::store::fit::Slot;
 use crate::store::member::Member;
 use pg_types::{FAR_BELOW, SIGNS_MAX, Sign};
 
-/// Where no family is placed from base 1 on, each search begins this far below the greatest used
-/// cell. The search is short then, and most free cells are used all the same.
+/// Where no family is placed from base 1 on, each search begins this far below the greatest taken
+/// cell. The search is short then, and most free cells get taken all the same.
 pub const NEAR_BELOW: usize = 16;
 
 // How far below the top the search for a base begins.

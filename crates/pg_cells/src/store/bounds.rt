@@ -1,4 +1,4 @@
-//! Bounds by sign below which no base is free.
+//! A bound for each sign: no base below it is free for a family with the sign.
 ghost use Rattle.std.specs.Prelude.{◌≡◌, ◌≢◌, ℕ, ◌+◌, ◌<◌, ◌≤◌, false, length, slice_index, IfOk, if◌then◌else◌};
 ghost use Rattle.pg_cells.specs.declared.store.cell.TheConstants.{CELLS_END, SIGN_COUNT};
 ghost use Rattle.pg_cells.specs.Inside.store.Bounds.{IsBelowBounds};
@@ -17,7 +17,8 @@ pub fn no_bounds(alloc: Global, signs: u16) -> Result<Vec<u32>, AllocError>
     Ok(lows)
 }
 
-/// The bound of a sign, where these are the least cell and the least base that were given up.
+/// The bound of a sign. `freed` and `dropped` are the least cell and the least base that were given
+/// up since the bounds were lowered.
 pub fn bound_of(lows: &[u32], freed: usize, dropped: usize, sign: Sign) -> usize
     ensures { (b : ℕ) → b < result → IsBelowBounds lows.now freed dropped sign b }
 {
@@ -57,7 +58,7 @@ pub fn raise(lows: &mut [u32], freed: usize, dropped: usize, sign: Sign, low: us
     }
 }
 
-/// The least base that was given up, where `base` is given up too unless `is_base`.
+/// The least base given up so far. `base` counts as given up unless `is_base`.
 pub fn least_dropped(dropped: usize, base: usize, is_base: bool) -> usize
     ensures least { result ≤ dropped }
     ensures base { is_base ≡ false → result ≤ base }

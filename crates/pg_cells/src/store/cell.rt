@@ -32,16 +32,16 @@ pub const BASE_AT: u32 = 1 << 2;
 pub const LINK_AT: u32 = 1 << 3;
 
 /// A cell. Its parts beside the value are packed into two numbers of 32 bits, so that many cells
-/// fit a cache.
+/// fit in the cache.
 ///
 /// A free cell has no next and no first sign. The number of the free cell before it stands there.
 #[derive(Clone, Copy)]
 pub struct Cell<V> {
     /// The value of the string that ends with this cell.
     pub value: V,
-    /// In a taken cell 1, one less than its sign, the next sign of its family, 0 for none, and the
-    /// lower part of the first sign of the family below its string, 0 for none; in a free cell 0
-    /// and the free cell before it.
+    /// Of a taken cell: a bit that is 1, its sign less one, the next sign of its family and the
+    /// lower part of the first sign below, 0 for none. Of a free cell: a bit that is 0, and the
+    /// free cell before it.
     pub signs: u32,
     /// The upper part of the first sign, whether the index of the cell is the base of a family, and
     /// a link. The link of a taken cell is the base of its child family, 0 for none; that of a free
@@ -57,7 +57,7 @@ fn upper_signs(next: Sign, first: Sign) -> u32
     next as u32 * NEXT_AT + first as u32 % FIRST_COUNT * FIRST_AT
 }
 
-// `links` when the index becomes a base, or no base any more.
+// `links` with the bit that says whether the index is a base.
 fn links_with_base(links: u32, is_base: bool) -> u32
     ensures base { base_in result ≡ is_base }
     ensures link { link_in result ≡ link_in links }
@@ -67,7 +67,7 @@ fn links_with_base(links: u32, is_base: bool) -> u32
     if is_base { others + BASE_AT } else { others }
 }
 
-/// Whether a cell is taken. The search for a base asks this of each cell that it looks at.
+/// Whether a cell is taken. The search along the free cells asks this of each cell it looks at.
 pub fn is_taken<V: Copy>(cells: &[Cell<V>], cell: usize) -> bool
     requires { cell < length cells.now }
     ensures { SaysTaken (linked_row cells.now).row cell result }
@@ -126,8 +126,8 @@ pub fn before_of<V: Copy>(cells: &[Cell<V>], cell: usize) -> usize
     (cells[cell].signs / SIGN_AT) as usize
 }
 
-/// The free cell after a free cell, 0 for none. In a taken cell the base of its child family stands
-/// there.
+/// The free cell after a free cell, 0 for none. In a taken cell these bits are the base of its
+/// child family.
 pub fn after_of<V: Copy>(cells: &[Cell<V>], cell: usize) -> usize
     requires { cell < length cells.now }
     ensures { result ≡ after_at (linked_row cells.now) cell }
@@ -226,8 +226,8 @@ pub fn set_taken<V: Copy>(
         + value.first as u32 / FIRST_COUNT;
 }
 
-/// Gives a cell up, which stands between the free cells `before` and `after` then. Whether its
-/// index is a base stays as it is.
+/// Makes a cell free. In the list it then stands between `before` and `after`. Whether its index is
+/// a base stays as it is.
 pub fn set_free<V: Copy>(cells: &mut [Cell<V>], cell: usize, before: usize, after: usize)
     requires cell { cell < length cells.old }
     requires before { before < CELLS_END }

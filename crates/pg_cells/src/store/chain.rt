@@ -38,7 +38,7 @@ pub fn take_cell<V: Copy>(
     set_taken(cells, cell, sign, value, child);
 }
 
-/// Puts a taken cell into the list, at its place.
+/// Puts a taken cell into the list, in order.
 pub fn free_cell<V: Copy>(cells: &mut [Cell<V>], cell: usize)
     requires linked { AreLinked (linked_row cells.old) }
     requires small { length cells.old < CELLS_END }
@@ -51,8 +51,8 @@ pub fn free_cell<V: Copy>(cells: &mut [Cell<V>], cell: usize)
     put_after(cells, cell, before);
 }
 
-// The last free cell below a taken cell. It is sought from the cell down, along the free cells from
-// the first, and from the cell up, side by side. The first free cell above is linked with it.
+// The last free cell below a taken cell. Three searches go side by side: down from the cell, along
+// the list from cell 0, and up to the next free cell, which is linked with the one sought.
 fn free_below<V: Copy>(cells: &[Cell<V>], cell: usize) -> usize
     requires linked { AreLinked (linked_row cells.now) }
     requires cell { (0 < cell) × (cell < length cells.now) }
@@ -84,7 +84,7 @@ fn free_below<V: Copy>(cells: &[Cell<V>], cell: usize) -> usize
     before_of(cells, high)
 }
 
-// Puts a cell into the list behind the free cell before it.
+// Makes a cell free and puts it into the list behind `before`, the last free cell below it.
 fn put_after<V: Copy>(cells: &mut [Cell<V>], cell: usize, before: usize)
     requires linked { AreLinked (linked_row cells.old) }
     requires small { length cells.old < CELLS_END }

@@ -61,8 +61,8 @@ fn fits<V: Copy>(cells: &[Cell<V>], slots: &[Slot<Member<V>>], base: usize) -> b
     !is_base_of(cells, base)
 }
 
-// The first free cell from a cell on. It is sought from the cell on and, side by side, along the
-// free cells from the first.
+// The first free cell from a cell on. Two searches go side by side: up from the cell, and along the
+// list from cell 0.
 fn free_from<V: Copy>(cells: &[Cell<V>], cell: usize, bound: usize) -> usize
     requires linked { AreLinked (linked_row cells.now) }
     requires positive { 0 < cell }
@@ -83,8 +83,8 @@ fn free_from<V: Copy>(cells: &[Cell<V>], cell: usize, bound: usize) -> usize
     if free < cell { at } else { free }
 }
 
-/// The least base from `low` on at which the sign and those of the slots may stand. At `room` they
-/// may stand.
+/// The least base from `low` on at which the sign and those of the slots may stand. `room` is a
+/// base at which they may stand.
 pub fn find_base<V: Copy>(
     cells: &[Cell<V>],
     slots: &[Slot<Member<V>>],

@@ -73,9 +73,9 @@ impl CountedCells {
     }
 
     /// No string is counted. `alike` says that the next strings are as long as the last ones, so
-    /// that many may be the same. Then the cells stay, if at least a quarter of them are of counted
-    /// strings and enough entries are left. They stay too where none is counted: such a pass tells
-    /// nothing of the next one. Else each sign alone has a cell. It takes no memory.
+    /// many of them may be the same. Then the cells stay, if at least a quarter of them are of
+    /// counted strings and enough entries are left. They stay too where none is counted: such a
+    /// pass tells nothing of the next one. Else each sign alone has a cell. It takes no memory.
     pub fn clear(&mut self, alike: bool)
         ensures signs { self.new.signs ≡ self.old.signs }
         ensures none { counts_in self.new.values ≡ [] }
@@ -125,8 +125,8 @@ impl CountedCells {
     }
 
     /// Adds the sign to the family below the parent's string, and gives its cell. The string with
-    /// the sign is not counted. The number of a cell of this family that was got before may then be
-    /// that of another string's cell. Refused: nothing changes.
+    /// the sign is not counted. Other cells of this family may move, so a cell's index got before
+    /// may be that of another string's cell. Refused: nothing changes.
     pub fn add(&mut self, parent: usize, s: Sign) -> Result<usize, AllocError>
         requires { CanTakeSign self.old.signs self.old.families parent s }
         ensures held { (q : List ℕ) → cell_of self.old.families q ≡ Some parent
@@ -201,9 +201,9 @@ impl CountedCells {
     }
 }
 
-// The entry of the first tally of the next pass, past each entry of the cells. Where the cells are
-// to stay and enough entries are left, it is `next`, and each string keeps its cell. Else the
-// entries begin again from 1, and each sign alone has a cell.
+// The entry of the first tally of the next pass. It is greater than every entry that is there.
+// Where the cells are to stay and enough entries are left, it is `next`, and each string keeps its
+// cell. Else the entries begin again from 1, and each sign alone has a cell.
 fn first_after(cells: &mut NearCells<u32>, next: u32, keeps: bool) -> u32
     requires held { AreValuedFamilies cells.old }
     requires positive { 1 ≤ next }

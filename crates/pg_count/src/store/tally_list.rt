@@ -14,8 +14,8 @@ pub const NO_TALLY: u32 = 0;
 /// that half of all entries are left for it.
 pub const LATEST_FIRST: u32 = NUMBERS_END / 2;
 
-/// The tally that an entry tells, where the entries of the tallies are `first` plus their numbers,
-/// or `None` where it tells none. It is given as its number and its sums.
+/// The tally of an entry: its number, which is the entry less `first`, and its sums. `None` where
+/// the entry is of no tally.
 pub fn tally_by_number(tallies: &[(u64, u64)], first: u32, entry: u32) -> Option<(u32, (u64, u64))>
     ensures { result ≡ tally_by_number first tallies.now entry }
 {

@@ -8,8 +8,8 @@ use crate::store::window_list::WindowList;
 use crate::table::index::first_index;
 use pg_types::Cursor;
 
-/// The number of the least window above another, or `None` where there is no such one. It goes
-/// along the entries, from that of the other window on.
+/// The number of the least window above another, or `None` where there is none. It goes along the
+/// entries, from that of the other window on.
 pub fn least_above(
     numbers: &[u32],
     first: u32,

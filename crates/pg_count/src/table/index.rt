@@ -37,7 +37,7 @@ fn are_signs(signs: u16, window: &[Sign]) -> bool
 }
 
 /// The entry from which the least window above `other` is sought: no window of `len` signs above it
-/// has an entry before.
+/// has an earlier entry.
 pub fn first_index(signs: u16, len: u8, other: &[Sign]) -> usize
     requires few { (signs + 1) ^ len ≤ ENTRIES_MAX }
     ensures { (v : List ℕ) → length v ≡ len → SignsWithin signs v

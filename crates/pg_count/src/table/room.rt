@@ -3,7 +3,7 @@ ghost use Rattle.std.specs.Prelude.{◌≡◌, ◌<◌, ◌⊎◌, ℕ, length, 
 
 use std::alloc::AllocError;
 
-/// Makes room for an entry in a table of so many: those that it lacks are 0. Refused: nothing
+/// Gives the table all its entries if it lacks the one at `index`. New ones are 0. Refused: nothing
 /// changes.
 pub fn make_room(numbers: &mut Vec<u32>, index: usize, entries: usize) -> Result<(), AllocError>
     requires { index < entries }

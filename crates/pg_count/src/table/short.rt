@@ -5,8 +5,8 @@ ghost use Rattle.pg_count.specs.declared.table.short.TheConstants.{ENTRIES_MAX};
 
 use pg_types::SIGNS_MAX;
 
-/// A table has at most so many entries, which take 16 MB: one for each window of two signs of the
-/// largest table of letters, where a sign may be 0 to [`SIGNS_MAX`].
+/// A table has at most so many entries, which take 16 MB. There is one for each window of two signs
+/// of the largest table of letters, where a sign may be 0 to [`SIGNS_MAX`].
 pub const ENTRIES_MAX: usize = (SIGNS_MAX as usize + 1) * (SIGNS_MAX as usize + 1);
 
 /// Windows of three signs are counted in a table where there are at most so many signs. It has at

@@ -195,8 +195,9 @@ impl WindowCounter for TableCounts {
     }
 }
 
-// The entry of the first window of the next pass, past each other one. It is `next`, and the table
-// stays; or the entries begin again from 1, and the table has no entry yet.
+// The entry of the first window of the next pass. It is greater than every entry that is there.
+// Either it is `next`, and the table stays, or the entries begin again from 1, and the table has no
+// entry yet.
 fn first_after(numbers: &mut Vec<u32>, next: u32) -> u32
     requires positive { 1 ≤ next }
     requires few { next ≤ NUMBERS_END }

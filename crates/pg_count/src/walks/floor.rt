@@ -14,7 +14,8 @@ pub fn first_of(floor: &[Sign]) -> Sign
     }
 }
 
-/// The floor of what follows the sign, where the string may be above the floor.
+/// The floor for what follows the sign: the rest of the floor if it begins with the sign, else an
+/// empty one.
 pub fn rest_of(floor: &[Sign], s: Sign) -> &[Sign]
     ensures { result.now ≡ rest_after floor.now s }
 {

@@ -52,10 +52,10 @@ fn sign_from(cells: &NearCells<u32>, base: usize, first: Sign, from: Sign) -> Si
     s
 }
 
-/// The number of the least window above another, among those that begin with the string of the
-/// family with the base and the first sign; `None` where none of them is above it. `floor` is the
-/// part of `above` behind the string, and `more` the most signs that a window has behind it. The
-/// search follows the signs of the families.
+/// The number of the least window above another, among those that begin with a family's string;
+/// `None` where there is none. The family has the base, and `first` is the first of its signs.
+/// `floor` is the part of `above` behind the string, and `more` the most signs that a window has
+/// behind it. The search follows the signs of the families.
 #[cycle(least)]
 pub fn least(
     cells: &CountedCells,

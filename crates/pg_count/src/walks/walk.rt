@@ -83,7 +83,7 @@ fn walk_at(
     walk(cells, below, families.first_sign(cell), more, out)
 }
 
-// Appends the number of the string that has the cell, which no sign follows.
+// Appends the number of a cell's string, if it is counted. No sign follows this string.
 fn last_at(cells: &CountedCells, cell: usize, out: &mut Vec<u32>) -> Result<(), AllocError>
     requires cell { (q : List ℕ) × (cell_of cells.now.families q ≡ Some cell) }
     requires held { AreValuedFamilies cells.now }

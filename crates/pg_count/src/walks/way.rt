@@ -22,7 +22,7 @@ pub struct Way {
     pub at: usize,
 }
 
-/// The way of a string's signs, as far as strings that have a cell go on by them.
+/// How far the signs of a string lead from cell to cell.
 pub fn way_of(cells: &CountedCells, signs: &[Sign]) -> Way
     requires held { AreValuedFamilies cells.now }
     requires some { 0 < length signs.now }

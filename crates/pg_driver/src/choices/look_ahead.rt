@@ -15,7 +15,7 @@ const BLOCK: usize = 16;
 pub struct SeenCandidate {
     /// What becomes of it.
     pub fate: Choice,
-    /// Its window.
+    /// Its window, read before its turn.
     pub window: Cursor,
 }
 
@@ -44,8 +44,8 @@ fn look_at<E: Engine>(
     Ok(())
 }
 
-/// Looks ahead from the candidate with the index `k` of the order on, where that one was not looked
-/// at yet. `seen` has the candidates from the index `from` on. The answer is this index afterwards.
+/// Fills `seen` from index `k` of the order on, unless it has that candidate. `from` is the index
+/// of the first in `seen`; the answer is that index afterwards.
 pub fn look_ahead<E: Engine>(
     engine: &E,
     fates: &[Choice],

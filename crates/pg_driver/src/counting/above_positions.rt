@@ -107,7 +107,8 @@ fn is_chosen_by(fates: &[Choice], number: u32) -> bool
     matches!(fate_of(fates, number), Some(Choice::Chosen))
 }
 
-/// The sums with the weight of a listed position more, where its window of a pass was chosen.
+/// The sums with the weight of one more listed position added, where its window of a pass was
+/// chosen.
 fn add_kept(
     dictionary: &Dictionary,
     pass: Pass,

@@ -63,8 +63,8 @@ fn count_sign<E: Engine>(
     engine.count_numbered(window, good, weights[sign])
 }
 
-/// Counts the windows of a pass that has begun at the positions at which its dot is open. Each of
-/// them gets the number of its window.
+/// Counts, in a pass that has begun, the windows at the positions where its dot is open, and lists
+/// their numbers.
 #[inline(never)]
 pub fn count_open<E: Engine>(
     engine: &mut E,
@@ -113,7 +113,7 @@ pub fn fate_of(fates: &[Choice], number: u32) -> Option<Choice>
 }
 
 /// Closes dots at a position at which the dot of a pass is open, by what became of its window.
-/// Where no window fits, no longer window with the dot fits either.
+/// Where no window fits, no longer window with the dot fits either. So the dot is closed.
 fn close_at(dots: &mut OpenDots, dot: u8, sign: usize, fate: Option<Choice>)
     requires dot { dot < dots.old.reached }
     requires within { sign < position_count dots.old }

@@ -51,7 +51,7 @@ fn open_by_status(level: u8, sign: usize, mark: Mark, dots: &mut OpenDots)
     }
 }
 
-/// Takes a position of this status out of those that count at no level, where it has care.
+/// If a position of this status has care, takes it out of those that count at no level.
 fn note_care(sign: usize, mark: Mark, never: &mut PositionSet)
     requires within { sign < positions_room never.old }
     ensures room { positions_room never.new ≡ positions_room never.old }

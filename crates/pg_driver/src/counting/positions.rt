@@ -39,7 +39,7 @@ pub fn fits(pass: Pass, size: usize, p: usize) -> bool
     dot <= p && usize::from(pass.len) <= size - (p - dot)
 }
 
-/// The window of a pass with its dot at position `p` of some signs, among which it lies.
+/// The window of a pass with its dot at position `p` of these signs. It has to lie among them.
 pub fn window_at(pass: Pass, signs: &[Sign], p: usize) -> &[Sign]
     requires dot { pass.dot ≤ p }
     requires end { p - pass.dot + pass.len ≤ length signs.now }

@@ -47,8 +47,7 @@ impl WordLevel {
     }
 
     /// Counts the windows of a pass that has begun, and gives the totals before it. Each word is
-    /// hyphenated once. Each position that is listed has the number of its window, where that is
-    /// counted.
+    /// hyphenated once. Each listed position gets the number of its window, or `NO_NUMBER`.
     pub fn count_each_word<E: Engine>(
         &mut self,
         engine: &mut E,
@@ -89,8 +88,9 @@ impl WordLevel {
         Ok(before)
     }
 
-    /// Carries the totals on past the choices of a pass. Those of the listed positions, which are
-    /// `kept`, change no value, so their weights are left out.
+    /// Carries the totals on past the choices of a pass. `kept` are the weights of listed positions
+    /// among what was chosen. The values of these positions do not change, so the weights are left
+    /// out.
     pub fn after_choices(&mut self, level: u8, choices: Choices, kept: ChosenWeights)
         requires { CanMove (is_odd level) self.old.totals choices kept }
         ensures { IsAfterWords (is_odd level) choices kept self.old self.new }

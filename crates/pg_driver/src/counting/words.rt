@@ -30,8 +30,8 @@ use pg_translate::Table;
 use pg_types::Totals;
 use std::alloc::AllocError;
 
-/// Whether position `p` of a word counts as good or as bad in a pass: it does so by its status, as
-/// `good` says, and its window fits in the word and is not covered.
+/// What position `p` of a word counts as in a pass. `good` says what it counts as by its status. It
+/// counts only where its window fits in the word and is not covered.
 fn counts_in_pass(
     pass: Pass,
     w: &WordRef<'_>,

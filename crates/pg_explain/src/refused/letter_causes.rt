@@ -9,9 +9,9 @@ use pg_visible::Part::{Byte, Char, Hex, Name, Show};
 use pg_visible::Text;
 use std::alloc::AllocError;
 
-/// Why a character is no letter: a sentence in which `$0` is the character, `$1` its bytes as
-/// numbers, `$2` the translate file, `$3` the refused file, `$4` the character beside it, and `$5`
-/// the mark of a hyphen.
+/// Why a character is no letter, as a sentence. In it `$0` is the character, `$1` its bytes as
+/// numbers, and `$2` the translate file. `$3` is the refused file, `$4` the character beside it,
+/// and `$5` the mark of a hyphen.
 #[derive(Clone, Copy)]
 struct Cause {
     sentence: &'static str,

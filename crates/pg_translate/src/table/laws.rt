@@ -19,8 +19,8 @@ pub fn keeps_rules(table: &Table)
     let _ = &table.head;
 }
 
-/// Where an item begins a text, it is the first item of the text, whatever follows it; the spelling
-/// of each letter is an item; an item holds no blank, TAB, LF or CR; and where a line ends, no item
+/// Where an item begins a text, it is the first item of the text, whatever follows it. The spelling
+/// of each letter is an item. An item holds no blank, TAB, LF or CR. Where a line ends, no item
 /// stands.
 pub fn items_are_read(table: &Table, place: Place)
     ensures read { (item : Token) (text more : List ℕ) → IsItem table.now place item text

@@ -12,7 +12,7 @@ pub record IsLeast (test : ℕ → Bool) (low b : ℕ) : Type 0 where
   pub meets : test b ≡ true
   pub first : (k : ℕ) → low ≤ k → k < b → test k ≡ false
 
--- whether s joins the family of the prefix p in place: there is one, and the cell of s is unused
+-- whether s joins the family of the prefix p in place: there is one, and the cell of s is free
 abbrev pub joins_at : Families → List ℕ → ℕ → Bool
 joins_at fs p s = elim (family_at fs p) [ None ↦ false | Some f ↦ not (is_used fs (f.base + s)) ]
 

@@ -3,7 +3,7 @@ use Rattle.std.specs.Prelude.{◌≡◌, ◌≢◌, ℕ, ◌+◌, ◌<◌, ◌�
 use Rattle.pg_cells.specs.Inside.store.CellRows.{Row, sign_at, base_at}
 
 module _ {V : Type 0} where
-  -- a family cannot move to the base k: it is taken, or a cell of another family is in the way
+  -- a family cannot move to k: k is a base already, or a cell of another family is in the way
   abbrev pub IsBlocked : Row V → ℕ → ℕ → Type 0
   IsBlocked r placed k =
       (base_at r k ≡ true) ⊎

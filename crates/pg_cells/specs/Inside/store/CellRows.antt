@@ -4,7 +4,7 @@ use Rattle.pg_cells.specs.declared.store.cell.Cell.{Cell}
 use Rattle.pg_cells.specs.declared.store.cell.TheConstants.{SIGN_COUNT, SIGN_AT, NEXT_AT, FIRST_AT, FIRST_COUNT, BASE_AT, LINK_AT}
 use Rattle.pg_cells.specs.declared.store.member.Member.{Member}
 
--- what families see of the cells: signs, bases of child families, values, and which bases are taken
+-- what families see: signs, bases of child families, values, and which indices are bases
 pub record Row (V : Type 0) : Type 0 where
   pub signs : List ℕ
   pub children : List ℕ
@@ -55,7 +55,7 @@ module _ {V : Type 0} where
   abbrev pub child_at : Row V → ℕ → ℕ
   child_at r cell = get_or r.children cell 0
 
-  -- whether an index is the base of a family; it is not past the end
+  -- whether an index is the base of a family; no index past the end is
   abbrev pub base_at : Row V → ℕ → Bool
   base_at r cell = get_or r.bases cell false
 
@@ -97,7 +97,7 @@ module _ {V : Type 0} where
   unlink_at (m ∷ ms) zero = without_links m.value ∷ ms
   unlink_at (m ∷ ms) (suc i) = m ∷ unlink_at ms i
 
-  -- a free cell has no links of a family
+  -- the value of a cell, with its links to signs; a free cell has no such links
   abbrev pub member_seen : Cell V → Member V
   member_seen c = if nat_eq (sign_seen c) 0 then without_links c.value
       else record { value = c.value; next = next_in c.signs; first = first_in c.signs c.links }

@@ -18,7 +18,7 @@ abbrev pub AreLinked : {V : Type 0} → LinkedRow V → Type 0
 AreLinked ls = IsFreeList (λ j. get_or ls.row.signs j 1)
     (λ j. get_or ls.befores j 0) (λ j. get_or ls.afters j 0)
 
--- the cells below i are free, are no bases, and have the links of a row that is free up to `last`
+-- the cells below i are free, are no bases, and are linked as where all cells up to `last` are free
 pub record IsFreeTo {V : Type 0} (last i : ℕ) (ls : LinkedRow V) : Type 0 where
   pub signs : (j : ℕ) → j < i → get_or ls.row.signs j 1 ≡ 0
   pub bases : (j : ℕ) → j < i → base_at ls.row j ≡ false

@@ -11,13 +11,13 @@ use Rattle.pg_cells.specs.Inside.store.SetFit.{AreRowSets}
 use Rattle.pg_cells.specs.Inside.store.BlockedBases.{AreBlocked}
 use Rattle.pg_cells.specs.Inside.store.Bounds.{AreBounds}
 
--- how proofs store a value with its links: the value, the next sign and the first sign
+-- the code of a value with its links, as pairs: the value, the next sign and the first sign
 abbrev pub member_code : {V : Type 0} → Coded V → Coded (Member V)
 member_code {V} code = code_by (V × (ℕ × ℕ)) (coded× code (coded× coded_ℕ coded_ℕ))
     (λ m. (m.value, (m.next, m.first))) (λ p. record { value = p.0; next = p.1.0; first = p.1.1 })
     (λ _. refl)
 
--- how proofs store a row: its signs, children, values and bases
+-- the code of a row, as pairs: its signs, children, values and bases
 abbrev pub row_code : {V : Type 0} → Coded V → Coded (Row V)
 row_code {V} code =
     code_by

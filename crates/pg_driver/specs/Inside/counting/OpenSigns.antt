@@ -87,8 +87,8 @@ pub record DotsTell (level len : ℕ) (m : Minima) (P : Patterns) (H : Hopeless)
   pub inside : is_in_reach m w p ≡ true → TellCounted level len P H w p closed
   pub outside : is_in_reach m w p ≡ false → (d : ℕ) → d ≤ LENGTH_MAX → closed d ≡ true
 
--- how far a level is: no string that covers is longer than the length, no value is above the level,
--- and closed dots tell what counts, in passes of the length and by the status
+-- how far a level is: no string that covers is longer than the length, and no value is above the
+-- level. Closed dots tell what counts in passes of the length, and what counts by the status
 pub record IsLevelAt (level len : ℕ) (m : Minima) (words : List Word) (P : Patterns) (H : Hopeless)
     (closed : ℕ → ℕ → Bool) : Type 0 where
   pub short : CoversUpTo level len P H
