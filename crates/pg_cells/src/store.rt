@@ -74,8 +74,8 @@ impl<V: Copy> Model for Store<V> {
     ghost view = { λ s. row_of s.cells.items };
 
     ghost invariant = { λ s.
-        IsStore s.cells.items s.top s.taken s.taken_set s.bases s.lows.items s.freed s.dropped s.placed
-        s.sought };
+        IsStore s.cells.items s.top s.taken s.taken_set s.bases s.lows.items
+        s.freed s.dropped s.placed s.sought };
 }
 
 impl<V: Copy> Store<V> {

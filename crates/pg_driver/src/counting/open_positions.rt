@@ -129,7 +129,8 @@ pub fn open_level<E: Engine>(
         (λ opened. (d n p : ℕ) (w : Word) → slice_get dictionary.now n ≡ Some w
         → p < length w.signs → is_closed opened.dots d (start_of dictionary.now n + p)
         ≡ not (is_open_first (minima_of table.now) level (E.meaning engine.now).patterns w p)) }
-    ensures set_size { IfOk result (λ opened. positions_room opened.never ≡ position_count opened.dots) }
+    ensures set_size { IfOk result
+        (λ opened. positions_room opened.never ≡ position_count opened.dots) }
     ensures never { IfOk result (λ opened. (n p : ℕ) (w : Word)
         → slice_get dictionary.now n ≡ Some w → p < length w.signs
         → is_among opened.never (start_of dictionary.now n + p)

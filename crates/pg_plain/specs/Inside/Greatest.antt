@@ -8,7 +8,8 @@ use Rattle.pg_select.specs.Inside.words.WindowStrings.{is_within}
 abbrev pub greatest_by : {X : Type 0} → ((List ℕ × ℕ) × X → ℕ)
     → (List ℕ × ℕ → Bool) → List ((List ℕ × ℕ) × X) → ℕ
 greatest_by number test [] = 0
-greatest_by number test (e ∷ es) = max (if test e.0 then number e else 0) (greatest_by number test es)
+greatest_by number test (e ∷ es) =
+    max (if test e.0 then number e else 0) (greatest_by number test es)
 
 -- for each position the greatest number of the entries whose dotted strings pass its test
 abbrev pub greatest_at : {X : Type 0} → ((List ℕ × ℕ) × X → ℕ)

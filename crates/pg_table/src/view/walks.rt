@@ -15,7 +15,8 @@ use pg_types::{PATTERN_SIGNS_MAX, Sign};
 pub fn walk(view: &TableView<'_>, w: &[Sign], out: &mut WordState)
     requires len { length w.now ≤ WORD_LETTERS_MAX + 2 }
     requires uncovered { IsUncovered out.old }
-    ensures values { Raises (by_table_starts view.now w.now 0) (values_of out.old) (values_of out.new) }
+    ensures values { Raises (by_table_starts view.now w.now 0)
+        (values_of out.old) (values_of out.new) }
     ensures uncovered { IsUncovered out.new }
 {
     for start in 0..w.len() {

@@ -5,7 +5,8 @@ use Rattle.pg_select.specs.declared.choice.Choice.{Choice}
 use Rattle.pg_driver.specs.declared.choices.look_ahead.SeenCandidate.{SeenCandidate}
 
 -- a candidate is the window with the number, and has the fate of that number
-pub record IsReadAhead (fates : List Choice) (ws : Windows) (n : ℕ) (c : SeenCandidate) : Type 0 where
+pub record IsReadAhead (fates : List Choice) (ws : Windows) (n : ℕ) (c : SeenCandidate)
+    : Type 0 where
   pub fate : slice_get fates n ≡ Some c.fate
   pub window : HasNumber ws c.window n
 
