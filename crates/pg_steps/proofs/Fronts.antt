@@ -150,7 +150,7 @@ refused input parse (Some bytes) refusal is = let no : parse bytes ≡ Err refus
 
 -- a reader that failed on the first bytes stops the input
 pub stopped_up_to : {Y : Type 0} (n : ℕ) (parse : List ℕ → Result Y Refusal) → IsReadUpTo n parse → (input : Input) (name bytes : List ℕ) (old new : FilesShown) (error : ReadingError)
-    → IfSome new.held (λ files. option_map (take (n + 1)) (file_at files name) ≡ Some bytes) → Fails error (parse bytes) → StopsAt (input_file input name (λ _. parse)) old new (stop_of input error)
+    → IfSome new.held (λ files. option_map (take (n + 1)) (file_at files name) ≡ Some bytes) → Fails error (parse bytes) → StopsAt (input_file input name parse) old new (stop_of input error)
 stopped_up_to n parse front input name bytes old new (reader.Refused refusal) e failed =
     mapped new.held (λ files. read_as parse (file_at files) name ≡ Some (Err refusal))
     (λ files. option_map (λ bytes. unless_accepted input (parse bytes)) (file_at files name) ≡ Some (Some (refuses input refusal)))
@@ -159,7 +159,7 @@ stopped_up_to n parse front input name bytes old new reader.Memory e failed = tt
 
 pub stopped_by_front : {Y : Type 0} (parse : List ℕ → Result Y Refusal) → IsReadByFront parse → (input : Input) (name bytes : List ℕ) (old new : FilesShown) (error : ReadingError)
     → IfSome new.held (λ files. option_map (take (FILE_MAX + 1)) (file_at files name) ≡ Some bytes) → Fails error (parse bytes)
-    → StopsAt (input_file input name (λ _. parse)) old new (stop_of input error)
+    → StopsAt (input_file input name parse) old new (stop_of input error)
 stopped_by_front parse front input name bytes old new error e failed = stopped_up_to FILE_MAX parse front input name bytes old new error e failed
 
 -- a stop at the first bytes of a file is a stop at the file
@@ -175,7 +175,7 @@ module _ {Y : Type 0} (parse : List ℕ → Result Y Refusal) (front : IsReadByF
   accepted_ok (Ok y) gives = read_by_front parse front new.held name bytes (Ok y) first gives
   accepted_ok (Err error) gives = tt
 
-  accepted_stopped : (read : Result Y ReadingError) → Gives (λ y. y) read (parse bytes) → IfErr (accepted_as input read) (StopsAt (input_file input name (λ _. parse)) old new)
+  accepted_stopped : (read : Result Y ReadingError) → Gives (λ y. y) read (parse bytes) → IfErr (accepted_as input read) (StopsAt (input_file input name parse) old new)
   accepted_stopped (Ok y) gives = tt
   accepted_stopped (Err error) gives = stopped_by_front parse front input name bytes old new error first gives
 
@@ -192,7 +192,7 @@ input_stopped parse input name old new r stop is only calls stops = record {
   only = only;
   calls = calls;
   ok = no_value r _ stop is;
-  stopped = that_error r (StopsAt (input_file input name (λ _. parse)) old new) stop is (front_stop (input_file input name (λ _. parse)) old new stop stops);
+  stopped = that_error r (StopsAt (input_file input name parse) old new) stop is (front_stop (input_file input name parse) old new stop stops);
 }
 
 -- and what is known of it is known of what is accepted

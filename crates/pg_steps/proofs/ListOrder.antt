@@ -22,7 +22,7 @@ use Rattle.pg_steps.proofs.UnderTable.{HasTable, accepted_under, stopped_first, 
 module _ (translate patterns dict : List ℕ) (t : Alphabet) where
   -- a stop at the patterns
   pub stopped_patterns : (s0 s1 : FilesShown) (stop : Stop) → KeepsHeld s0.held s1.held → MakesCalls s0 s1 (Reads patterns ∷ []) → IfSome s0.held (HasTable translate t)
-      → StopsAt (input_file input.Patterns patterns (λ _. start t)) s0 s1 stop → StopsReading (lists_under translate patterns dict) s0 s1 stop
+      → StopsAt (input_file input.Patterns patterns (start t)) s0 s1 stop → StopsReading (lists_under translate patterns dict) s0 s1 stop
   stopped_patterns s0 s1 stop keeps calls table stops =
       stopped_first (patterns_file translate patterns) (words_file translate dict ∷ []) s0 s1 stop calls
       (stopped_under translate t start input.Patterns patterns s0 s1 stop (held_later s0.held s1.held (HasTable translate t) keeps table) stops)
@@ -42,7 +42,7 @@ module _ (translate patterns dict : List ℕ) (t : Alphabet) where
     -- a stop at the dictionary
     pub stopped_words : (s0 s1 s2 : FilesShown) (stop : Stop) → NoneFell s0.read_faults s1.read_faults → KeepsHeld s0.held s1.held → KeepsHeld s1.held s2.held
         → MakesCalls s0 s1 (Reads patterns ∷ []) → MakesCalls s1 s2 (Reads dict ∷ []) → IfSome s0.held (HasTable translate t) → IfSome s1.held HasPatterns
-        → StopsAt (input_file input.Dictionary dict (λ _. words t)) s1 s2 stop → StopsReading (lists_under translate patterns dict) s0 s2 stop
+        → StopsAt (input_file input.Dictionary dict (words t)) s1 s2 stop → StopsReading (lists_under translate patterns dict) s0 s2 stop
     stopped_words s0 s1 s2 stop fell keeps more first second table read stops =
         let before : IfSome s1.held (HasTable translate t) = held_later s0.held s1.held (HasTable translate t) keeps table in
         let later : IfSome s2.held (HasTable translate t) = held_later s1.held s2.held (HasTable translate t) more before in

@@ -1,19 +1,18 @@
 -- Files that are read under the table of a translate file: what they mean, and a stop at each.
 use Rattle.std.proofs.Common.{◌≡◌, ℕ, List, [], ◌∷◌, Option, None, Some, Result, Ok, IfSome, sym, ap, subst, arith}
-use Rattle.std.specs.Option.{option_map, option_map_or}
-use Rattle.std.specs.Result.{result_unwrap_or}
+use Rattle.std.specs.Option.{option_map, option_and_then}
+use Rattle.std.specs.Result.{result_ok}
 use Rattle.pg_types.specs.declared.refusals.Refusal.{Refusal}
 use Rattle.pg_outside.specs.Content.{FileMap, FilesShown, KeepsHeld, file_at}
 use Rattle.pg_outside.specs.Inside.NameFaults.{NoneFell}
 use Rattle.pg_outside.specs.FilesCalls.{Reads}
 use Rattle.pg_translate.specs.Alphabets.{Alphabet}
-use Rattle.pg_translate.specs.Tables.{table, default_alphabet}
+use Rattle.pg_translate.specs.Tables.{table}
 use Rattle.pg_steps.specs.FileCalls.{MakesCalls}
 use Rattle.pg_steps.specs.Outcomes.{unless_accepted}
 use Rattle.pg_steps.specs.Inside.ends.Refusing.{refuses}
-use Rattle.pg_steps.specs.Readings.{HeldFiles, Reading, meaning, input_file, table_named, translate_file}
+use Rattle.pg_steps.specs.Readings.{HeldFiles, Reading, meaning, under, input_file, file_under, translate_file}
 use Rattle.pg_steps.specs.Inside.reading.ReadAs.{read_as}
-use Rattle.pg_steps.specs.Inside.reading.UnderTable.{file_under, meaning_under}
 use Rattle.pg_steps.specs.Inside.ends.Stops.{StopsAt, StopsReading}
 use Rattle.pg_steps.specs.declared.inputs.Input.{Input}
 use Rattle.pg_steps.specs.declared.inputs.Input.TheVariants as input
@@ -27,12 +26,16 @@ pub accepted : {Y : Type 0} (input : Input) (parse : List ℕ → Result Y Refus
 accepted input parse None y is = cc
 accepted input parse (Some bytes) y is = let ok : parse bytes ≡ Ok y = cc in ap (λ got. Some (unless_accepted input got)) ok
 
-pub means : {Y : Type 0} (parse : List ℕ → Result Y Refusal) (other : Y) (files : HeldFiles) (name : List ℕ) (y : Y) → read_as parse files name ≡ Some (Ok y) → meaning parse other files name ≡ y
-means {Y} parse other files name y is = by_file (files name) is
+pub means : {Y : Type 0} (parse : List ℕ → Result Y Refusal) (files : HeldFiles) (name : List ℕ) (y : Y) → read_as parse files name ≡ Some (Ok y) → meaning parse files name ≡ Some y
+means {Y} parse files name y is = by_file (files name) is
   where
-    by_file : (file : Option (List ℕ)) → option_map parse file ≡ Some (Ok y) → option_map_or (λ bytes. result_unwrap_or (parse bytes) other) file other ≡ y
+    by_file : (file : Option (List ℕ)) → option_map parse file ≡ Some (Ok y) → option_and_then (λ bytes. result_ok (parse bytes)) file ≡ Some y
     by_file None is = cc
-    by_file (Some bytes) is = let ok : parse bytes ≡ Ok y = cc in ap (λ (r : Result Y Refusal). result_unwrap_or r other) ok
+    by_file (Some bytes) is = let ok : parse bytes ≡ Ok y = cc in ap (λ (r : Result Y Refusal). result_ok r) ok
+
+-- what follows from a file that means something
+pub under_is : {X Y : Type 0} (meant : Option X) (x : X) (next : X → Option Y) → meant ≡ Some x → under meant next ≡ next x
+under_is {X} {Y} meant x next is = ap (λ (m : Option X). under m next) is
 
 -- a stop at the first file
 pub stopped_first : (r : Reading) (rest : List Reading) (s0 s1 : FilesShown) (stop : Stop) → MakesCalls s0 s1 (Reads r.name ∷ []) → StopsAt r s0 s1 stop → StopsReading (r ∷ rest) s0 s1 stop
@@ -47,31 +50,26 @@ module _ (translate : List ℕ) (t : Alphabet) where
   abbrev pub HasTable : FileMap → Type 0
   HasTable files = read_as table (file_at files) translate ≡ Some (Ok t)
 
-  pub is_table : (files : FileMap) → HasTable files → table_named translate (file_at files) ≡ t
-  is_table files h = means table default_alphabet (file_at files) translate t h
-
-  pub under_table : {Y : Type 0} (parse : Alphabet → List ℕ → Result Y Refusal) (files : FileMap) (name : List ℕ) (got : Option (Result Y Refusal))
-      → HasTable files → read_as (parse t) (file_at files) name ≡ got → read_as (parse (table_named translate (file_at files))) (file_at files) name ≡ got
-  under_table parse files name got h is = subst (λ (u : Alphabet). read_as (parse u) (file_at files) name ≡ got) (sym (is_table files h)) is
+  pub is_table : (files : FileMap) → HasTable files → meaning table (file_at files) translate ≡ Some t
+  is_table files h = means table (file_at files) translate t h
 
   pub table_accepted : (files : FileMap) → HasTable files → IsAccepted (file_at files) (translate_file translate)
   table_accepted files h = accepted input.Translate table (file_at files translate) t h
 
   pub accepted_under : {Y : Type 0} (parse : Alphabet → List ℕ → Result Y Refusal) (input : Input) (name : List ℕ) (y : Y) (files : FileMap) → HasTable files
       → read_as (parse t) (file_at files) name ≡ Some (Ok y) → IsAccepted (file_at files) (file_under translate input name parse)
-  accepted_under parse input name y files h is = accepted input (parse (table_named translate (file_at files))) (file_at files name) y (under_table parse files name (Some (Ok y)) h is)
-
-  pub means_under : {Y : Type 0} (parse : Alphabet → List ℕ → Result Y Refusal) (other : Y) (name : List ℕ) (y : Y) (files : FileMap) → HasTable files
-      → read_as (parse t) (file_at files) name ≡ Some (Ok y) → meaning_under translate parse other (file_at files) name ≡ y
-  means_under parse other name y files h is = means (parse (table_named translate (file_at files))) other (file_at files) name y (under_table parse files name (Some (Ok y)) h is)
+  accepted_under parse input name y files h is =
+      subst (λ (meant : Option Alphabet). option_map (λ bytes. under meant (λ u. unless_accepted input (parse u bytes))) (file_at files name) ≡ Some None) (sym (is_table files h))
+      (accepted input (parse t) (file_at files name) y is)
 
   -- a stop at an input that is read under the table
   pub stopped_under : {Y : Type 0} (parse : Alphabet → List ℕ → Result Y Refusal) (input : Input) (name : List ℕ) (old new : FilesShown) (stop : Stop)
-      → IfSome new.held HasTable → StopsAt (input_file input name (λ _. parse t)) old new stop → StopsAt (file_under translate input name parse) old new stop
+      → IfSome new.held HasTable → StopsAt (input_file input name (parse t)) old new stop → StopsAt (file_under translate input name parse) old new stop
   stopped_under parse input name old new (Refused at refusal) h stops =
       mapped new.held (λ files. HasTable files × (option_map (λ bytes. unless_accepted input (parse t bytes)) (file_at files name) ≡ Some (Some (refuses at refusal))))
-      (λ files. option_map (λ bytes. unless_accepted input (parse (table_named translate (file_at files)) bytes)) (file_at files name) ≡ Some (Some (refuses at refusal)))
-      (λ files both. subst (λ (u : Alphabet). option_map (λ bytes. unless_accepted input (parse u bytes)) (file_at files name) ≡ Some (Some (refuses at refusal))) (sym (is_table files both.0)) both.1)
+      (λ files. option_map (λ bytes. under (meaning table (file_at files) translate) (λ u. unless_accepted input (parse u bytes))) (file_at files name) ≡ Some (Some (refuses at refusal)))
+      (λ files both. subst (λ (meant : Option Alphabet). option_map (λ bytes. under meant (λ u. unless_accepted input (parse u bytes))) (file_at files name) ≡ Some (Some (refuses at refusal)))
+      (sym (is_table files both.0)) both.1)
       (both new.held HasTable _ h stops)
   stopped_under parse input name old new (Unread at) h stops = stops
   stopped_under parse input name old new Memory h stops = tt
@@ -79,7 +77,7 @@ module _ (translate : List ℕ) (t : Alphabet) where
   -- a stop at the file behind the translate file
   pub stopped_second : {Y : Type 0} (parse : Alphabet → List ℕ → Result Y Refusal) (input : Input) (name : List ℕ) (rest : List Reading) (s0 s1 s2 : FilesShown) (stop : Stop)
       → NoneFell s0.read_faults s1.read_faults → MakesCalls s0 s2 (Reads translate ∷ Reads name ∷ []) → KeepsHeld s1.held s2.held → IfSome s1.held HasTable
-      → StopsAt (input_file input name (λ _. parse t)) s1 s2 stop
+      → StopsAt (input_file input name (parse t)) s1 s2 stop
       → StopsReading (translate_file translate ∷ file_under translate input name parse ∷ rest) s0 s2 stop
   stopped_second parse input name rest s0 s1 s2 stop fell calls keeps h stops =
       let later : IfSome s2.held HasTable = held_later s1.held s2.held HasTable keeps h in

@@ -47,7 +47,7 @@ module _ (fs : List SelectedFile) (n : FileNames) (i : Inputs) (is : made_files 
       named f = (f.1, f.2)
 
   -- and compared
-  pub wanted_made : wanted_files fs ≡ given_files (λ _. i) n
+  pub wanted_made : wanted_files fs ≡ given_files (λ _. Some i) n
   wanted_made = sym (map-map reading made_file fs) ∙ ap (map reading) is ∙ map-map reading (λ g. (g.0, g.1, selected_file i g.0)) (selected_names n)
     where
       reading : Given × List ℕ × List ℕ → Reading

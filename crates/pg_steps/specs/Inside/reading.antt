@@ -2,5 +2,4 @@
 pub mod ReadAs
 pub mod ReadCalls
 pub mod ReadsMade
-pub mod UnderTable
 pub mod Lists

@@ -22,7 +22,7 @@ use Rattle.pg_steps.specs.RefusedLines.{label_of}
 use Rattle.pg_steps.specs.Readings.{HeldFiles, Reading, first_end}
 use Rattle.pg_words.specs.forms.Generate.{FileNames}
 use Rattle.pg_top.specs.Selection.{selected_names}
-use Rattle.pg_top.specs.generate.GenerateRule.{inputs_in}
+use Rattle.pg_top.specs.generate.GenerateRule.{generate_inputs}
 use Rattle.pg_top.specs.generate.Inside.AcceptedInputs.{input_reads, HasInputs}
 use Rattle.pg_steps.specs.Inside.ends.Stops.{StopsAt, StopsWith, StopsReading}
 use Rattle.pg_steps.specs.declared.answers.Status.{Status}
@@ -38,7 +38,7 @@ use Rattle.pg_top.specs.declared.selection.Inputs.{Inputs}
 use Rattle.pg_top.proofs.Calls.{answered_call}
 use Rattle.pg_steps.proofs.CountedCalls.{calls_on, calls_are, taken_more, read_more, all_reads}
 use Rattle.pg_top.proofs.CountedEnds.{counted_line}
-use Rattle.pg_top.proofs.generate.InputOrder.{inputs_accepted, given as given_inputs}
+use Rattle.pg_top.proofs.generate.InputOrder.{inputs_accepted, inputs_given}
 use Rattle.pg_steps.proofs.Orders.{IsAccepted, AreAccepted, accepted_and, accepted_front, accepted_all, end_behind, mapped, both, held_later, stopped_behind, stopped_after, read_after, end_after}
 use Rattle.pg_steps.specs.Rules.{outcome_of}
 
@@ -62,22 +62,22 @@ judged g text (Some whole) bytes (inr h) =
     ap Some (denied g (first_false whole text) ∙ ap (option_map (λ p. Ends No [] (said g p))) (sym printed) ∙ sym (denied g (first_false bytes text)))
 
 -- the same files are judged alike where the inputs are the same
-same_ends : (files : HeldFiles) (inputs : HeldFiles → Inputs) (i : Inputs) → inputs files ≡ i → (gs : List (Given × List ℕ)) → first_end files (map (given_file inputs) gs)
-    ≡ first_end files (map (given_file (λ _. i)) gs)
+same_ends : (files : HeldFiles) (inputs : HeldFiles → Option Inputs) (i : Inputs) → inputs files ≡ Some i → (gs : List (Given × List ℕ)) → first_end files (map (given_file inputs) gs)
+    ≡ first_end files (map (given_file (λ _. Some i)) gs)
 same_ends files inputs i is [] = refl
 same_ends files inputs i is (g ∷ gs) =
-    ap (λ j. first_end files (given_file (λ _. j) g ∷ map (given_file inputs) gs)) is
-    ∙ ap (λ rest. option_map_or (λ bytes. option_or ((given_file (λ _. i) g).ends files bytes) rest) (files g.1) (Some Unknown)) (same_ends files inputs i is gs)
+    ap (λ (j : Option Inputs). first_end files (given_file (λ _. j) g ∷ map (given_file inputs) gs)) is
+    ∙ ap (λ rest. option_map_or (λ bytes. option_or ((given_file (λ _. Some i) g).ends files bytes) rest) (files g.1) (Some Unknown)) (same_ends files inputs i is gs)
 
 -- they are read alike under whatever inputs
-given_calls : (inputs : HeldFiles → Inputs) (gs : List (Given × List ℕ)) → read_calls (map (given_file inputs) gs) ≡ map (λ g. Reads g.1) gs
+given_calls : (inputs : HeldFiles → Option Inputs) (gs : List (Given × List ℕ)) → read_calls (map (given_file inputs) gs) ≡ map (λ g. Reads g.1) gs
 given_calls inputs [] = refl
 given_calls inputs (g ∷ gs) = ap (λ calls. Reads g.1 ∷ calls) (given_calls inputs gs)
 
-same_calls : (inputs others : HeldFiles → Inputs) (gs : List (Given × List ℕ)) → read_calls (map (given_file inputs) gs) ≡ read_calls (map (given_file others) gs)
+same_calls : (inputs others : HeldFiles → Option Inputs) (gs : List (Given × List ℕ)) → read_calls (map (given_file inputs) gs) ≡ read_calls (map (given_file others) gs)
 same_calls inputs others gs = given_calls inputs gs ∙ sym (given_calls others gs)
 
-front_calls : (inputs others : HeldFiles → Inputs) (k : ℕ) (gs : List (Given × List ℕ)) → read_calls (take k (map (given_file inputs) gs)) ≡ read_calls (take k (map (given_file others) gs))
+front_calls : (inputs others : HeldFiles → Option Inputs) (k : ℕ) (gs : List (Given × List ℕ)) → read_calls (take k (map (given_file inputs) gs)) ≡ read_calls (take k (map (given_file others) gs))
 front_calls inputs others k gs =
     ap read_calls (take-map (given_file inputs) k gs) ∙ same_calls inputs others (take k gs) ∙ ap read_calls (sym (take-map (given_file others) k gs))
 
@@ -86,85 +86,85 @@ module _ (n : FileNames) (i : Inputs) where
   inputs_there : (files : FileMap) → HasInputs (file_at files) n i → AreAccepted (file_at files) (input_reads n)
   inputs_there files h = inputs_accepted n i.table i.params i.start i.dictionary files h
 
-  inputs_same : (files : FileMap) → HasInputs (file_at files) n i → inputs_in (file_at files) n ≡ i
-  inputs_same files h = given_inputs n i.table i.params i.start i.dictionary files h
+  inputs_same : (files : FileMap) → HasInputs (file_at files) n i → generate_inputs n (file_at files) ≡ Some i
+  inputs_same files h = inputs_given n i.table i.params i.start i.dictionary files h
 
   -- what reading all comes to is what the given files come to
-  ends_with : (files : FileMap) → HasInputs (file_at files) n i → first_end (file_at files) (audit_rule n).reads ≡ first_end (file_at files) (given_files (λ _. i) n)
+  ends_with : (files : FileMap) → HasInputs (file_at files) n i → first_end (file_at files) (audit_rule n).reads ≡ first_end (file_at files) (given_files (λ _. Some i) n)
   ends_with files h =
-      accepted_front (file_at files) (input_reads n) (given_files (λ files. inputs_in files n) n) (inputs_there files h)
-      ∙ same_ends (file_at files) (λ files. inputs_in files n) i (inputs_same files h) (selected_names n)
+      accepted_front (file_at files) (input_reads n) (given_files (generate_inputs n) n) (inputs_there files h)
+      ∙ same_ends (file_at files) (generate_inputs n) i (inputs_same files h) (selected_names n)
 
-  pub outcome_audited : (ws : List SelectedFile) (verdict : Verdict) (files : FileMap) → wanted_files ws ≡ given_files (λ _. i) n → HasInputs (file_at files) n i
+  pub outcome_audited : (ws : List SelectedFile) (verdict : Verdict) (files : FileMap) → wanted_files ws ≡ given_files (λ _. Some i) n → HasInputs (file_at files) n i
       → first_end (file_at files) (wanted_files ws) ≡ end_of verdict → outcome_of (file_at files) (audit_rule n) ≡ outcome_by verdict
   outcome_audited ws verdict files wanted h is = ap (λ end. unwrap_or end (Ends Yes [] yes_line)) (ends_with files h ∙ ap (first_end (file_at files)) (sym wanted) ∙ is)
 
   -- those at the front come to the same
-  same_front : (files : FileMap) → HasInputs (file_at files) n i → (k : ℕ) → first_end (file_at files) (take k (given_files (λ files. inputs_in files n) n))
-      ≡ first_end (file_at files) (take k (given_files (λ _. i) n))
+  same_front : (files : FileMap) → HasInputs (file_at files) n i → (k : ℕ) → first_end (file_at files) (take k (given_files (generate_inputs n) n))
+      ≡ first_end (file_at files) (take k (given_files (λ _. Some i) n))
   same_front files h k =
-      ap (first_end (file_at files)) (take-map (given_file (λ files. inputs_in files n)) k (selected_names n))
-      ∙ same_ends (file_at files) (λ files. inputs_in files n) i (inputs_same files h) (take k (selected_names n))
-      ∙ ap (first_end (file_at files)) (sym (take-map (given_file (λ _. i)) k (selected_names n)))
+      ap (first_end (file_at files)) (take-map (given_file (generate_inputs n)) k (selected_names n))
+      ∙ same_ends (file_at files) (generate_inputs n) i (inputs_same files h) (take k (selected_names n))
+      ∙ ap (first_end (file_at files)) (sym (take-map (given_file (λ _. Some i)) k (selected_names n)))
 
   -- given files that were read up to an index of the reading order
-  read_given : (index : ℕ) (s2 s3 : FilesShown) → IfSome s3.held (λ files. HasInputs (file_at files) n i) → ReadsUpTo (given_files (λ _. i) n) index s2 s3
-      → ReadsUpTo (given_files (λ files. inputs_in files n) n) index s2 s3
+  read_given : (index : ℕ) (s2 s3 : FilesShown) → IfSome s3.held (λ files. HasInputs (file_at files) n i) → ReadsUpTo (given_files (λ _. Some i) n) index s2 s3
+      → ReadsUpTo (given_files (generate_inputs n) n) index s2 s3
   read_given index s2 s3 h read = record {
-    within = let within : index < length (given_files (λ _. i) n) = read.within in
-        omega (arith, length-map (selected_names n) (given_file (λ _. i)), length-map (selected_names n) (given_file (λ files. inputs_in files n)));
-    calls = calls_are (read_calls (take (index + 1) (given_files (λ _. i) n))) (read_calls (take (index + 1) (given_files (λ files. inputs_in files n) n))) s2 s3
-        (front_calls (λ _. i) (λ files. inputs_in files n) (index + 1) (selected_names n)) read.calls;
-    before_it = mapped s3.held (λ files. HasInputs (file_at files) n i × (first_end (file_at files) (take index (given_files (λ _. i) n)) ≡ None))
-        (λ files. first_end (file_at files) (take index (given_files (λ files. inputs_in files n) n)) ≡ None)
+    within = let within : index < length (given_files (λ _. Some i) n) = read.within in
+        omega (arith, length-map (selected_names n) (given_file (λ _. Some i)), length-map (selected_names n) (given_file (generate_inputs n)));
+    calls = calls_are (read_calls (take (index + 1) (given_files (λ _. Some i) n))) (read_calls (take (index + 1) (given_files (generate_inputs n) n))) s2 s3
+        (front_calls (λ _. Some i) (generate_inputs n) (index + 1) (selected_names n)) read.calls;
+    before_it = mapped s3.held (λ files. HasInputs (file_at files) n i × (first_end (file_at files) (take index (given_files (λ _. Some i) n)) ≡ None))
+        (λ files. first_end (file_at files) (take index (given_files (generate_inputs n) n)) ≡ None)
         (λ files k. same_front files k.0 index ∙ k.1)
-        (both s3.held (λ files. HasInputs (file_at files) n i) (λ files. first_end (file_at files) (take index (given_files (λ _. i) n)) ≡ None) h read.before_it);
+        (both s3.held (λ files. HasInputs (file_at files) n i) (λ files. first_end (file_at files) (take index (given_files (λ _. Some i) n)) ≡ None) h read.before_it);
   }
 
   end_given : (index : ℕ) (held : Option FileMap) (end : Outcome) → IfSome held (λ files. HasInputs (file_at files) n i)
-      → IfSome held (λ files. first_end (file_at files) (take (index + 1) (given_files (λ _. i) n)) ≡ Some end)
-      → IfSome held (λ files. first_end (file_at files) (take (index + 1) (given_files (λ files. inputs_in files n) n)) ≡ Some end)
+      → IfSome held (λ files. first_end (file_at files) (take (index + 1) (given_files (λ _. Some i) n)) ≡ Some end)
+      → IfSome held (λ files. first_end (file_at files) (take (index + 1) (given_files (generate_inputs n) n)) ≡ Some end)
   end_given index held end h is =
-      mapped held (λ files. HasInputs (file_at files) n i × (first_end (file_at files) (take (index + 1) (given_files (λ _. i) n)) ≡ Some end))
-      (λ files. first_end (file_at files) (take (index + 1) (given_files (λ files. inputs_in files n) n)) ≡ Some end)
+      mapped held (λ files. HasInputs (file_at files) n i × (first_end (file_at files) (take (index + 1) (given_files (λ _. Some i) n)) ≡ Some end))
+      (λ files. first_end (file_at files) (take (index + 1) (given_files (generate_inputs n) n)) ≡ Some end)
       (λ files k. same_front files k.0 (index + 1) ∙ k.1)
-      (both held (λ files. HasInputs (file_at files) n i) (λ files. first_end (file_at files) (take (index + 1) (given_files (λ _. i) n)) ≡ Some end) h is)
+      (both held (λ files. HasInputs (file_at files) n i) (λ files. first_end (file_at files) (take (index + 1) (given_files (λ _. Some i) n)) ≡ Some end) h is)
 
   -- a stop at a given file, by what the inputs are read as
-  why_given : (index : ℕ) (s2 s3 : FilesShown) (stop : Stop) → IfSome s3.held (λ files. HasInputs (file_at files) n i) → StopsWith (given_files (λ _. i) n) index s2 s3 stop
-      → StopsWith (given_files (λ files. inputs_in files n) n) index s2 s3 stop
+  why_given : (index : ℕ) (s2 s3 : FilesShown) (stop : Stop) → IfSome s3.held (λ files. HasInputs (file_at files) n i) → StopsWith (given_files (λ _. Some i) n) index s2 s3 stop
+      → StopsWith (given_files (generate_inputs n) n) index s2 s3 stop
   why_given index s2 s3 (Refused input refusal) h why = end_given index s3.held (refuses input refusal) h why
   why_given index s2 s3 (Unread name) h why =
-      let there = sym (slice_get-map (given_file (λ _. i)) (selected_names n) index) ∙ why.1 in
+      let there = sym (slice_get-map (given_file (λ _. Some i)) (selected_names n) index) ∙ why.1 in
       let g : Given × List ℕ = get_given (slice_get (selected_names n) index) why.0 there in
       let at : slice_get (selected_names n) index ≡ Some g = given_at (slice_get (selected_names n) index) why.0 there in (
-        given_file (λ files. inputs_in files n) g,
-        slice_get-map (given_file (λ files. inputs_in files n)) (selected_names n) index ∙ ap (option_map (given_file (λ files. inputs_in files n))) at,
+        given_file (generate_inputs n) g,
+        slice_get-map (given_file (generate_inputs n)) (selected_names n) index ∙ ap (option_map (given_file (generate_inputs n))) at,
         given_name (slice_get (selected_names n) index) why.0 there ∙ why.2,
         why.3,
       )
     where
-      get_given : (o : Option (Given × List ℕ)) (r : Reading) → option_map (given_file (λ _. i)) o ≡ Some r → Given × List ℕ
+      get_given : (o : Option (Given × List ℕ)) (r : Reading) → option_map (given_file (λ _. Some i)) o ≡ Some r → Given × List ℕ
       get_given None r is = absurd (cc)
       get_given (Some g) r is = g
 
-      given_at : (o : Option (Given × List ℕ)) (r : Reading) (is : option_map (given_file (λ _. i)) o ≡ Some r) → o ≡ Some (get_given o r is)
+      given_at : (o : Option (Given × List ℕ)) (r : Reading) (is : option_map (given_file (λ _. Some i)) o ≡ Some r) → o ≡ Some (get_given o r is)
       given_at None r is = absurd (cc)
       given_at (Some g) r is = refl
 
-      given_name : (o : Option (Given × List ℕ)) (r : Reading) (is : option_map (given_file (λ _. i)) o ≡ Some r) → (get_given o r is).1 ≡ r.name
+      given_name : (o : Option (Given × List ℕ)) (r : Reading) (is : option_map (given_file (λ _. Some i)) o ≡ Some r) → (get_given o r is).1 ≡ r.name
       given_name None r is = absurd (cc)
       given_name (Some g) r is = ap (λ (x : Option Reading). option_map_or (λ r. r.name) x []) is
   why_given index s2 s3 Memory h why = tt
 
   -- a stop at a given file is a stop of all
-  pub stopped_given : (ws : List SelectedFile) (s0 s2 s3 : FilesShown) (stop : Stop) → wanted_files ws ≡ given_files (λ _. i) n → NoneFell s0.read_faults s2.read_faults
+  pub stopped_given : (ws : List SelectedFile) (s0 s2 s3 : FilesShown) (stop : Stop) → wanted_files ws ≡ given_files (λ _. Some i) n → NoneFell s0.read_faults s2.read_faults
       → MakesCalls s0 s2 (read_calls (input_reads n)) → KeepsHeld s2.held s3.held → IfSome s2.held (λ files. HasInputs (file_at files) n i)
       → StopsReading (wanted_files ws) s2 s3 stop → StopsReading (audit_rule n).reads s0 s3 stop
   stopped_given ws s0 s2 s3 stop wanted fell calls keeps h stops =
       let later : IfSome s3.held (λ files. HasInputs (file_at files) n i) = held_later s2.held s3.held (λ files. HasInputs (file_at files) n i) keeps h in
-      let given_stops : StopsReading (given_files (λ _. i) n) s2 s3 stop = subst (λ (reads : List Reading). StopsReading reads s2 s3 stop) wanted stops in
-      stopped_after (input_reads n) (given_files (λ files. inputs_in files n) n) s0 s2 s3 stop fell calls
+      let given_stops : StopsReading (given_files (λ _. Some i) n) s2 s3 stop = subst (λ (reads : List Reading). StopsReading reads s2 s3 stop) wanted stops in
+      stopped_after (input_reads n) (given_files (generate_inputs n) n) s0 s2 s3 stop fell calls
       (mapped s3.held (λ files. HasInputs (file_at files) n i) (λ files. AreAccepted (file_at files) (input_reads n)) inputs_there later)
       (record {
         index = given_stops.index;
@@ -173,12 +173,12 @@ module _ (n : FileNames) (i : Inputs) where
       })
 
   -- how far all files were read where this was found
-  pub found_given : (ws : List SelectedFile) (verdict : Verdict) (s0 s2 s3 : FilesShown) → wanted_files ws ≡ given_files (λ _. i) n → MakesCalls s0 s2 (read_calls (input_reads n))
+  pub found_given : (ws : List SelectedFile) (verdict : Verdict) (s0 s2 s3 : FilesShown) → wanted_files ws ≡ given_files (λ _. Some i) n → MakesCalls s0 s2 (read_calls (input_reads n))
       → KeepsHeld s2.held s3.held → IfSome s2.held (λ files. HasInputs (file_at files) n i) → ReadsToFind (wanted_files ws) verdict s2 s3 → ReadsToFind (audit_rule n).reads verdict s0 s3
   found_given ws Equal s0 s2 s3 wanted calls keeps h read =
-      let given : read_calls (wanted_files ws) ≡ read_calls (given_files (λ files. inputs_in files n) n) = ap read_calls wanted ∙ same_calls (λ _. i) (λ files. inputs_in files n) (selected_names n) in
+      let given : read_calls (wanted_files ws) ≡ read_calls (given_files (generate_inputs n) n) = ap read_calls wanted ∙ same_calls (λ _. Some i) (generate_inputs n) (selected_names n) in
       let same : read_calls (input_reads n) ++ read_calls (wanted_files ws) ≡ read_calls (audit_rule n).reads = ap (λ more. read_calls (input_reads n) ++ more) given
-      ∙ sym (map-append read_call (input_reads n) (given_files (λ files. inputs_in files n) n)) in
+      ∙ sym (map-append read_call (input_reads n) (given_files (generate_inputs n) n)) in
       calls_are (read_calls (input_reads n) ++ read_calls (wanted_files ws)) (read_calls (audit_rule n).reads) s0 s3 same
       (calls_on (read_calls (input_reads n)) (read_calls (wanted_files ws)) s0 s2 s3 calls read)
   found_given ws (False line) s0 s2 s3 wanted calls keeps h found =
@@ -186,12 +186,12 @@ module _ (n : FileNames) (i : Inputs) where
       let front : IfSome s3.held (λ files. AreAccepted (file_at files) (input_reads n)) =
       mapped s3.held (λ files. HasInputs (file_at files) n i) (λ files. AreAccepted (file_at files) (input_reads n)) inputs_there later in
       let index : ℕ = found.0 in
-      let read : ReadsUpTo (given_files (λ _. i) n) index s2 s3 = subst (λ (reads : List Reading). ReadsUpTo reads index s2 s3) wanted found.1 in
-      let end : IfSome s3.held (λ files. first_end (file_at files) (take (index + 1) (given_files (λ _. i) n)) ≡ Some (Ends No [] line.items)) =
+      let read : ReadsUpTo (given_files (λ _. Some i) n) index s2 s3 = subst (λ (reads : List Reading). ReadsUpTo reads index s2 s3) wanted found.1 in
+      let end : IfSome s3.held (λ files. first_end (file_at files) (take (index + 1) (given_files (λ _. Some i) n)) ≡ Some (Ends No [] line.items)) =
       subst (λ (reads : List Reading). IfSome s3.held (λ files. first_end (file_at files) (take (index + 1) reads) ≡ Some (Ends No [] line.items))) wanted found.2 in (
         4 + index,
-        read_after (input_reads n) (given_files (λ files. inputs_in files n) n) index s0 s2 s3 calls front (read_given index s2 s3 later read),
-        end_after (input_reads n) (given_files (λ files. inputs_in files n) n) index s3.held (Ends No [] line.items) front (end_given index s3.held (Ends No [] line.items) later end),
+        read_after (input_reads n) (given_files (generate_inputs n) n) index s0 s2 s3 calls front (read_given index s2 s3 later read),
+        end_after (input_reads n) (given_files (generate_inputs n) n) index s3.held (Ends No [] line.items) front (end_given index s3.held (Ends No [] line.items) later end),
       )
 
 -- all were right, or one had a false line: the calls

@@ -6,16 +6,17 @@ use Rattle.pg_outside.specs.Content.{FileMap, FilesShown, KeepsHeld, file_at}
 use Rattle.pg_outside.specs.Inside.NameFaults.{NoneFell}
 use Rattle.pg_outside.specs.FilesCalls.{Reads}
 use Rattle.pg_translate.specs.Alphabets.{Alphabet}
+use Rattle.pg_translate.specs.Tables.{table}
 use Rattle.pg_dict.specs.Word.{Word}
 use Rattle.pg_dict.specs.DictionaryWords.{words}
 use Rattle.pg_patterns.specs.Values.{Patterns}
 use Rattle.pg_patterns.specs.Starts.{start}
-use Rattle.pg_steps.specs.Readings.{Reading, input_file, table_named, translate_file, patterns_file, words_file}
+use Rattle.pg_steps.specs.Readings.{Reading, meaning, under, input_file, translate_file, patterns_file, words_file}
 use Rattle.pg_steps.specs.Inside.reading.ReadAs.{read_as}
 use Rattle.pg_words.specs.forms.Generate.{FileNames}
-use Rattle.pg_steps.specs.Outcomes.{Ends}
+use Rattle.pg_steps.specs.Outcomes.{Ends, known}
 use Rattle.pg_steps.specs.declared.answers.Status.TheVariants.{Done}
-use Rattle.pg_top.specs.generate.GenerateRule.{generate_rule, inputs_in, selected_files, selected_lines}
+use Rattle.pg_top.specs.generate.GenerateRule.{generate_rule, generate_inputs, selected_files, selected_lines}
 use Rattle.pg_top.specs.generate.Inside.AcceptedInputs.{input_reads, HasInputs}
 use Rattle.pg_steps.specs.Inside.reading.Lists.{lists_under, HasLists}
 use Rattle.pg_steps.specs.Inside.ends.Stops.{StopsAt, StopsReading}
@@ -26,12 +27,16 @@ use Rattle.pg_steps.specs.declared.inputs.Stop.TheVariants.{Memory}
 use Rattle.pg_steps.specs.FileCalls.{MakesCalls, read_calls}
 use Rattle.pg_steps.proofs.ListOrder.{lists_accepted}
 use Rattle.pg_steps.proofs.Orders.{AreAccepted, accepted_all, mapped, both, held_later, stopped_after, stopped_behind, wanted_after}
-use Rattle.pg_steps.proofs.UnderTable.{accepted, means, HasTable as HasTableNamed, is_table, table_accepted, means_under, stopped_first}
+use Rattle.pg_steps.proofs.UnderTable.{accepted, means, under_is, HasTable as HasTableNamed, is_table, table_accepted, stopped_first}
 use Rattle.pg_steps.specs.Rules.{outcome_of}
 
 -- the parameters
 abbrev parameters_input : FileNames → Reading
-parameters_input n = input_file input.Parameters n.params (λ _. parameters)
+parameters_input n = input_file input.Parameters n.params parameters
+
+-- what is given where each file means something
+abbrev made : Alphabet → Parameters → Patterns → List Word → Option Inputs
+made t p S ws = Some (record { table = t; params = p; start = S; dictionary = ws })
 
 -- what is known once the table is read
 module _ (n : FileNames) (t : Alphabet) where
@@ -57,20 +62,22 @@ module _ (n : FileNames) (t : Alphabet) where
           (two.0, (two.1.0, lists_accepted n.translate n.patterns n.dict t S ws files h.table (record { start = h.start; words = h.words })))
 
       -- and this is what is given
-      pub given : (files : FileMap) → HasInputs (file_at files) n all → inputs_in (file_at files) n ≡ all
-      given files h =
-          let is_t : table_named n.translate (file_at files) ≡ t = is_table n.translate t files h.table in
-          let is_p : (inputs_in (file_at files) n).params ≡ p = means parameters _ (file_at files) n.params p h.params in
-          let is_S : (inputs_in (file_at files) n).start ≡ S = means_under n.translate t start [] n.patterns S files h.table h.start in
-          let is_ws : (inputs_in (file_at files) n).dictionary ≡ ws = means_under n.translate t words [] n.dict ws files h.table h.words in
-          (λ i. record { table = is_t i; params = is_p i; start = is_S i; dictionary = is_ws i })
+      pub inputs_given : (files : FileMap) → HasInputs (file_at files) n all → generate_inputs n (file_at files) ≡ Some all
+      inputs_given files h =
+          under_is (meaning table (file_at files) n.translate) t (λ t. under (meaning parameters (file_at files) n.params) (λ p.
+          under (meaning (start t) (file_at files) n.patterns) (λ S. under (meaning (words t) (file_at files) n.dict) (made t p S)))) (is_table n.translate t files h.table)
+          ∙ under_is (meaning parameters (file_at files) n.params) p (λ p. under (meaning (start t) (file_at files) n.patterns) (λ S.
+          under (meaning (words t) (file_at files) n.dict) (made t p S))) (means parameters (file_at files) n.params p h.params)
+          ∙ under_is (meaning (start t) (file_at files) n.patterns) S (λ S. under (meaning (words t) (file_at files) n.dict) (made t p S))
+          (means (start t) (file_at files) n.patterns S h.start)
+          ∙ under_is (meaning (words t) (file_at files) n.dict) ws (made t p S) (means (words t) (file_at files) n.dict ws h.words)
 
 -- where all are read the outcome of `generate` is what it writes and prints
 pub outcome_generated : (n : FileNames) (i : Inputs) (files : FileMap) → HasInputs (file_at files) n i
     → outcome_of (file_at files) (generate_rule n) ≡ Ends Done (selected_files n i) (selected_lines i)
 outcome_generated n i files h =
     ap (λ end. unwrap_or end ((generate_rule n).own_outcome (file_at files))) (accepted_all (file_at files) (input_reads n) (inputs_accepted n i.table i.params i.start i.dictionary files h))
-    ∙ ap (λ (i : Inputs). Ends Done (selected_files n i) (selected_lines i)) (given n i.table i.params i.start i.dictionary files h)
+    ∙ ap (λ (meant : Option Inputs). known meant (λ i. Ends Done (selected_files n i) (selected_lines i))) (inputs_given n i.table i.params i.start i.dictionary files h)
 
 -- one input is read after the other, and the files stay as they are
 pub two_read : (n : FileNames) (t : Alphabet) (p : Parameters) (h1 h2 : Option FileMap) → KeepsHeld h1 h2 → IfSome h1 (HasTable n t)

@@ -1,16 +1,18 @@
 -- What `prune` reads, and what it comes to.
-use Rattle.std.proofs.Common.{◌≡◌, List, [], ◌∷◌, Option, IfSome, sym, subst, ap, ◌∙◌}
+use Rattle.std.proofs.Common.{◌≡◌, List, [], ◌∷◌, Option, Some, IfSome, MatchOption, sym, subst, ap, ◌∙◌}
 use Rattle.std.specs.Prelude.{unwrap_or}
 use Rattle.pg_outside.specs.Content.{FileMap, FilesShown, KeepsHeld, file_at}
 use Rattle.pg_outside.specs.Inside.NameFaults.{NoneFell}
 use Rattle.pg_outside.specs.FilesCalls.{Reads}
 use Rattle.pg_translate.specs.Alphabets.{Alphabet}
+use Rattle.pg_translate.specs.Tables.{table}
 use Rattle.pg_dict.specs.Word.{Word}
 use Rattle.pg_dict.specs.DictionaryWords.{words}
 use Rattle.pg_patterns.specs.Values.{Patterns}
 use Rattle.pg_patterns.specs.Starts.{start}
 use Rattle.pg_steps.specs.FileCalls.{MakesCalls}
-use Rattle.pg_steps.specs.Readings.{table_named, translate_file, patterns_file, words_file, patterns_under, words_under}
+use Rattle.pg_steps.specs.Outcomes.{known}
+use Rattle.pg_steps.specs.Readings.{meaning, under, translate_file, patterns_file, words_file}
 use Rattle.pg_top.specs.prune.Inside.Inputs.{HasPrune, line_of_pruning, pruned_by}
 use Rattle.pg_words.specs.forms.Prune.{PruneRequest}
 use Rattle.pg_steps.specs.Inside.ends.BuiltTexts.{KeepsPromise}
@@ -24,9 +26,9 @@ use Rattle.pg_steps.specs.declared.inputs.Stop.{Stop}
 use Rattle.pg_top.specs.declared.prune.inputs.PruneInputs.{PruneInputs}
 use Rattle.pg_steps.proofs.ListOrder.{lists_accepted}
 use Rattle.pg_steps.proofs.Orders.{AreAccepted, accepted_all, both, held_later, mapped, stopped_after}
-use Rattle.pg_steps.proofs.UnderTable.{HasTable, is_table, table_accepted, means_under, stopped_first}
+use Rattle.pg_steps.proofs.UnderTable.{HasTable, under_is, is_table, means, table_accepted, stopped_first}
 use Rattle.pg_steps.specs.Rules.{outcome_of}
-use Rattle.pg_top.specs.prune.PruneRule.{ReadsBackPatterns, prune_rule}
+use Rattle.pg_top.specs.prune.PruneRule.{ReadsBackPatterns, PrunePromise, prune_inputs, prune_rule}
 
 module _ (p : PruneRequest) where
   -- a stop at the translate file
@@ -59,40 +61,40 @@ prune_accepted p i files h = (
   lists_accepted p.translate p.patterns p.dict i.table i.patterns i.dictionary files h.table (record { start = h.patterns; words = h.words }),
 )
 
+-- what is given where each file means something
+abbrev made : Alphabet → Patterns → List Word → Option PruneInputs
+made t P ws = Some (record { table = t; patterns = P; dictionary = ws })
+
+-- so they give what they are read as
+prune_given : (p : PruneRequest) (i : PruneInputs) (files : FileMap) → HasPrune (file_at files) p i → prune_inputs p (file_at files) ≡ Some i
+prune_given p i files h =
+    under_is (meaning table (file_at files) p.translate) i.table
+    (λ t. under (meaning (start t) (file_at files) p.patterns) (λ P. under (meaning (words t) (file_at files) p.dict) (made t P))) (is_table p.translate i.table files h.table)
+    ∙ under_is (meaning (start i.table) (file_at files) p.patterns) i.patterns
+    (λ P. under (meaning (words i.table) (file_at files) p.dict) (made i.table P))
+    (means (start i.table) (file_at files) p.patterns i.patterns h.patterns)
+    ∙ under_is (meaning (words i.table) (file_at files) p.dict) i.dictionary (made i.table i.patterns)
+    (means (words i.table) (file_at files) p.dict i.dictionary h.words)
+
 -- then it comes to what pruning writes and prints
 pub prune_outcome : (p : PruneRequest) (i : PruneInputs) (files : FileMap) → HasPrune (file_at files) p i
     → outcome_of (file_at files) (prune_rule p) ≡ pruned_by p i.table i.dictionary i.patterns
 prune_outcome p i files h =
-    let t : Alphabet = i.table in
-    let P : Patterns = i.patterns in
-    let ws : List Word = i.dictionary in
-    let is_t = is_table p.translate t files h.table in
-    let is_P = means_under p.translate t start [] p.patterns P files h.table h.patterns in
-    let is_ws = means_under p.translate t words [] p.dict ws files h.table h.words in
     ap (λ end. unwrap_or end ((prune_rule p).own_outcome (file_at files))) (accepted_all (file_at files) (prune_rule p).reads (prune_accepted p i files h))
-    ∙ (λ k. pruned_by p (is_t k) (is_ws k) (is_P k))
+    ∙ ap (λ (meant : Option PruneInputs). known meant (λ i. pruned_by p i.table i.dictionary i.patterns)) (prune_given p i files h)
 
 -- what it promises
 pub prune_promise : (p : PruneRequest) (i : PruneInputs) (files : FileMap) → ReadsBackPatterns i.table (pruning_of (minima_of i.table) i.dictionary i.patterns).patterns
     → HasPrune (file_at files) p i → KeepsPromise (prune_rule p) (file_at files)
 prune_promise p i files back h =
-    let m = minima_of (table_named p.translate (file_at files)) in
-    let ws : List Word = words_under (file_at files) p.translate p.dict in
-    let P : Patterns = patterns_under (file_at files) p.translate p.patterns in
-    let is_t : table_named p.translate (file_at files) ≡ i.table = is_table p.translate i.table files h.table in
-    let is_P : P ≡ i.patterns = means_under p.translate i.table start [] p.patterns i.patterns files h.table h.patterns in
-    let is_ws : ws ≡ i.dictionary = means_under p.translate i.table words [] p.dict i.dictionary files h.table h.words in
-    let with_P : ReadsBackPatterns i.table (pruning_of (minima_of i.table) i.dictionary P).patterns =
-    subst (λ (Q : Patterns). ReadsBackPatterns i.table (pruning_of (minima_of i.table) i.dictionary Q).patterns) (sym is_P) back in
-    let with_ws : ReadsBackPatterns i.table (pruning_of (minima_of i.table) ws P).patterns =
-    subst (λ (vs : List Word). ReadsBackPatterns i.table (pruning_of (minima_of i.table) vs P).patterns) (sym is_ws) with_P in
-    record {
-      kept = (pruning_of m ws P).patterns;
-      report = prune_report (table_named p.translate (file_at files)) (pruning_of m ws P);
-      lines = line_of_pruning (pruning_of m ws P);
-      outcome = ap (λ end. unwrap_or end ((prune_rule p).own_outcome (file_at files))) (accepted_all (file_at files) (prune_rule p).reads (prune_accepted p i files h));
-      part = pruned_part m ws P;
-      reads_back = subst (λ (t : Alphabet). ReadsBackPatterns t (pruning_of (minima_of t) ws P).patterns) (sym is_t) with_ws;
-      alike = pruned_alike m ws P;
-      least = pruned_least m ws P;
-    }
+    let m = minima_of i.table in
+    subst (λ (meant : Option PruneInputs). MatchOption meant ⊥ (λ i. PrunePromise p i (outcome_of (file_at files) (prune_rule p)))) (sym (prune_given p i files h)) (record {
+      kept = (pruning_of m i.dictionary i.patterns).patterns;
+      report = prune_report i.table (pruning_of m i.dictionary i.patterns);
+      lines = line_of_pruning (pruning_of m i.dictionary i.patterns);
+      outcome = prune_outcome p i files h;
+      part = pruned_part m i.dictionary i.patterns;
+      reads_back = back;
+      alike = pruned_alike m i.dictionary i.patterns;
+      least = pruned_least m i.dictionary i.patterns;
+    })

@@ -9,17 +9,17 @@ use Rattle.pg_outside.specs.Inside.NameFaults.{NoneFell}
 use Rattle.pg_outside.specs.FilesCalls.{Reads}
 use Rattle.pg_words.specs.Inside.Names.{arguments_of}
 use Rattle.pg_steps.specs.FileCalls.{MakesCalls, read_calls}
-use Rattle.pg_steps.specs.Readings.{HeldFiles, Reading, parameters_named}
+use Rattle.pg_steps.specs.Readings.{HeldFiles, Reading, meaning, under}
 use Rattle.pg_steps.specs.Inside.reading.ReadAs.{read_as}
 use Rattle.pg_steps.specs.Inside.ends.Stops.{StopsAt, StopsReading}
-use Rattle.pg_top.specs.sweep.SweepRule.{set_files}
+use Rattle.pg_top.specs.sweep.SweepRule.{set_files, sweep_sets}
 use Rattle.pg_top.specs.sweep.Inside.SetFiles.{set_file}
 use Rattle.pg_top.specs.sweep.Inside.AcceptedInputs.{accepted_set, HasSets}
 use Rattle.pg_steps.specs.declared.inputs.Input.TheVariants as input
 use Rattle.pg_steps.specs.declared.inputs.Stop.{Stop}
 use Rattle.pg_steps.proofs.CountedCalls.{calls_on, calls_are}
 use Rattle.pg_steps.proofs.Orders.{AreAccepted, both, held_later, mapped, stopped_behind}
-use Rattle.pg_steps.proofs.UnderTable.{accepted, means}
+use Rattle.pg_steps.proofs.UnderTable.{accepted, means, under_is}
 
 -- files that are accepted as sets are accepted, under whatever numbers
 pub sets_accepted : (files : HeldFiles) (number : ℕ) (names : List (List ℕ)) (sets : List Parameters) → HasSets files names sets → AreAccepted files (set_files number names)
@@ -31,16 +31,16 @@ sets_accepted files number (name ∷ names) (set ∷ sets) h =
     (accepted (input.Set number) parameters (files name) set first, sets_accepted files (number + 1) names sets later)
 
 -- and mean these sets
-pub sets_mean : (files : HeldFiles) (names : List (List ℕ)) (sets : List Parameters) → HasSets files names sets → map (parameters_named files) names ≡ sets
+pub sets_mean : (files : HeldFiles) (names : List (List ℕ)) (sets : List Parameters) → HasSets files names sets → sweep_sets names files ≡ Some sets
 sets_mean files [] [] h = refl
 sets_mean files [] (set ∷ sets) h = absurd (cc)
 sets_mean files (name ∷ names) [] h = absurd (cc)
 sets_mean files (name ∷ names) (set ∷ sets) h =
     let first : read_as parameters files name ≡ Some (Ok set) = cc in
     let later : HasSets files names sets = cc in
-    let is : parameters_named files name ≡ set = means parameters (record { start = 1; finish = 1; levels = [] }) files name set first in
-    let are : map (parameters_named files) names ≡ sets = sets_mean files names sets later in
-    cc
+    let more : Parameters → List Parameters → Option (List Parameters) = λ set sets. Some (set ∷ sets) in
+    under_is (meaning parameters files name) set (λ set. under (sweep_sets names files) (more set)) (means parameters files name set first)
+    ∙ under_is (sweep_sets names files) sets (more set) (sets_mean files names sets later)
 
 -- one more set
 sets_and : (files : HeldFiles) (names : List (List ℕ)) (sets : List Parameters) (name : List ℕ) (set : Parameters) → HasSets files names sets

@@ -1,32 +1,36 @@
 -- What `sweep` reads, and what it comes to.
-use Rattle.std.proofs.Common.{◌≡◌, List, [], ◌∷◌, ◌++◌, Option, IfSome, sym, ap, ◌∙◌}
+use Rattle.std.proofs.Common.{◌≡◌, ℕ, List, [], ◌∷◌, ◌++◌, length, map, Option, Some, IfSome, sym, ap, ◌∙◌}
 use Rattle.std.specs.Prelude.{unwrap_or}
-use Rattle.std.proofs.lemmas.List.{map-append}
-use Rattle.pg_types.specs.Parameters.{Parameters}
+use Rattle.std.proofs.lemmas.List.{length-map, map-append}
+use Rattle.pg_types.specs.Parameters.{Parameters, parameters}
 use Rattle.pg_outside.specs.Content.{FileMap, FilesShown, KeepsHeld, file_at}
 use Rattle.pg_outside.specs.Inside.NameFaults.{NoneFell}
 use Rattle.pg_outside.specs.FilesCalls.{Reads}
 use Rattle.pg_translate.specs.Alphabets.{Alphabet}
+use Rattle.pg_translate.specs.Tables.{table}
 use Rattle.pg_dict.specs.Word.{Word}
 use Rattle.pg_dict.specs.DictionaryWords.{words}
 use Rattle.pg_patterns.specs.Values.{Patterns}
 use Rattle.pg_patterns.specs.Starts.{start}
-use Rattle.pg_sweep.specs.Sweeps.{Terms}
+use Rattle.pg_sweep.specs.Sweeps.{Terms, set_row}
+use Rattle.pg_sweep.specs.declared.rows.SweepRow.{SweepRow}
 use Rattle.pg_top.specs.sweep.Inside.Inputs.{outcome_of_sets, rows_of_sets}
 use Rattle.pg_steps.specs.FileCalls.{MakesCalls, read_calls}
 use Rattle.pg_steps.specs.Inside.reading.ReadCalls.{read_call}
-use Rattle.pg_steps.specs.Readings.{Reading, translate_file, patterns_file, words_file}
+use Rattle.pg_steps.specs.Outcomes.{known}
+use Rattle.pg_steps.specs.Readings.{Reading, meaning, under, translate_file, patterns_file, words_file}
+use Rattle.pg_steps.specs.Inside.reading.ReadAs.{read_as}
 use Rattle.pg_words.specs.forms.Sweep.{SweepRequest}
 use Rattle.pg_steps.specs.Inside.reading.Lists.{lists_under, HasLists}
 use Rattle.pg_steps.specs.Inside.ends.Stops.{StopsAt, StopsReading}
-use Rattle.pg_top.specs.sweep.SweepRule.{swept_rows, sweep_rule, set_files}
-use Rattle.pg_top.specs.sweep.Inside.AcceptedInputs.{HasSets, HasSweep}
+use Rattle.pg_top.specs.sweep.SweepRule.{sweep_sets, sweep_terms, swept_rows, outcome_of_sweep, sweep_rule, set_files}
+use Rattle.pg_top.specs.sweep.Inside.AcceptedInputs.{accepted_set, HasSets, HasSweep}
 use Rattle.pg_steps.specs.declared.inputs.Stop.{Stop}
 use Rattle.pg_steps.proofs.ListOrder.{lists_accepted}
 use Rattle.pg_steps.proofs.Orders.{AreAccepted, accepted_all, accepted_both, both, held_later, mapped, stopped_after, stopped_in_front}
 use Rattle.pg_steps.proofs.CountedCalls.{calls_on, calls_are}
 use Rattle.pg_top.proofs.sweep.SetFiles.{sets_accepted, sets_mean}
-use Rattle.pg_steps.proofs.UnderTable.{HasTable, is_table, table_accepted, means_under, stopped_first}
+use Rattle.pg_steps.proofs.UnderTable.{HasTable, under_is, is_table, means, table_accepted, stopped_first}
 use Rattle.pg_steps.specs.Rules.{outcome_of}
 
 module _ (s : SweepRequest) where
@@ -94,17 +98,39 @@ sweep_accepted s terms sets files h =
     lists_accepted s.translate s.patterns s.dict terms.table terms.start terms.words files h.table (record { start = h.start; words = h.words }) in
     accepted_both (file_at files) (set_front s) (patterns_file s.translate s.patterns ∷ words_file s.translate s.dict ∷ []) front rest
 
+-- what is given where each file means something
+abbrev terms_made : SweepRequest → Alphabet → Patterns → List Word → Option Terms
+terms_made s t P ws = Some (record { table = t; words = ws; start = P; folds = s.folds })
+
+-- so they give what they are read as, and these rows
+terms_given : (s : SweepRequest) (terms : Terms) (sets : List Parameters) (files : FileMap) → HasSweep (file_at files) s terms sets → sweep_terms s (file_at files) ≡ Some terms
+terms_given s terms sets files h =
+    under_is (meaning table (file_at files) s.translate) terms.table
+    (λ t. under (meaning (start t) (file_at files) s.patterns) (λ P. under (meaning (words t) (file_at files) s.dict) (terms_made s t P))) (is_table s.translate terms.table files h.table)
+    ∙ under_is (meaning (start terms.table) (file_at files) s.patterns) terms.start
+    (λ P. under (meaning (words terms.table) (file_at files) s.dict) (terms_made s terms.table P)) (means (start terms.table) (file_at files) s.patterns terms.start h.start)
+    ∙ under_is (meaning (words terms.table) (file_at files) s.dict) terms.words (terms_made s terms.table terms.start) (means (words terms.table) (file_at files) s.dict terms.words h.words)
+    ∙ ap (λ n. Some (record terms { folds = n })) (sym h.folds)
+
+pub rows_given : (s : SweepRequest) (terms : Terms) (sets : List Parameters) (files : FileMap) → HasSweep (file_at files) s terms sets
+    → swept_rows s (file_at files) ≡ Some (rows_of_sets s terms sets)
+unfolding swept_rows rows_of_sets
+rows_given s terms sets files h =
+    let rows : Terms → List Parameters → Option (List SweepRow) = λ terms sets. Some (map (set_row terms s.bad s.missed) sets) in
+    under_is (sweep_terms s (file_at files)) terms (λ terms. under (sweep_sets s.params (file_at files)) (rows terms)) (terms_given s terms sets files h)
+    ∙ under_is (sweep_sets s.params (file_at files)) sets (rows terms) (sets_mean (file_at files) s.params sets h.sets)
+
+-- a row for each set
+pub rows_many : (s : SweepRequest) (terms : Terms) (sets : List Parameters) (files : FileMap) → HasSweep (file_at files) s terms sets
+    → length (rows_of_sets s terms sets) ≡ length s.params
+unfolding rows_of_sets
+rows_many s terms sets files h =
+    length-map sets (set_row terms s.bad s.missed) ∙ sym (length-map sets accepted_set) ∙ sym (ap length h.sets)
+    ∙ length-map s.params (read_as parameters (file_at files))
+
 -- then it comes to what the sweep writes and prints
 pub sweep_outcome : (s : SweepRequest) (terms : Terms) (sets : List Parameters) (files : FileMap) → HasSweep (file_at files) s terms sets
     → outcome_of (file_at files) (sweep_rule s) ≡ outcome_of_sets s terms sets
-unfolding swept_rows rows_of_sets
 sweep_outcome s terms sets files h =
-    let t : Alphabet = terms.table in
-    let P : Patterns = terms.start in
-    let ws : List Word = terms.words in
-    let is_t = is_table s.translate t files h.table in
-    let is_P = means_under s.translate t start [] s.patterns P files h.table h.start in
-    let is_ws = means_under s.translate t words [] s.dict ws files h.table h.words in
-    let is_sets = sets_mean (file_at files) s.params sets h.sets in
     ap (λ end. unwrap_or end ((sweep_rule s).own_outcome (file_at files))) (accepted_all (file_at files) (sweep_rule s).reads (sweep_accepted s terms sets files h))
-    ∙ (λ k. outcome_of_sets s (record { table = is_t k; words = is_ws k; start = is_P k; folds = sym h.folds k }) (is_sets k))
+    ∙ ap (λ (rows : Option (List SweepRow)). known rows (outcome_of_sweep s)) (rows_given s terms sets files h)

@@ -1,6 +1,6 @@
 -- What a sweep writes and prints.
-use Rattle.std.proofs.Common.{◌≡◌, ℕ, ◌-◌, ◌≤◌, List, [], ◌∷◌, length, None, sym, ap, ◌∙◌, arith}
-use Rattle.std.specs.Prelude.{map, slice_index, unwrap_or}
+use Rattle.std.proofs.Common.{◌≡◌, ℕ, ◌-◌, ◌≤◌, List, [], ◌∷◌, length, Option, Some, MatchOption, sym, ap, subst, ◌∙◌, arith}
+use Rattle.std.specs.Prelude.{map, slice_index}
 use Rattle.std.proofs.lemmas.List.{length-map}
 use Rattle.pg_types.specs.Parameters.{Parameters}
 use Rattle.pg_sweep.specs.Files.{sweep_file}
@@ -11,8 +11,9 @@ use Rattle.pg_sweep.specs.declared.rows.SweepRow.{SweepRow}
 use Rattle.pg_sweep.proofs.Winners.{winner_wins}
 use Rattle.pg_steps.specs.Outcomes.{Ends}
 use Rattle.pg_steps.specs.Rules.{outcome_of}
-use Rattle.pg_top.specs.sweep.SweepRule.{SweepPromise, sweep_rule, winner_line, terms_in, swept_rows, outcome_of_sweep}
-use Rattle.pg_steps.specs.Readings.{HeldFiles, first_end, parameters_named}
+use Rattle.pg_steps.specs.Inside.ends.BuiltTexts.{KeepsPromise}
+use Rattle.pg_top.specs.sweep.SweepRule.{SweepPromise, sweep_rule, winner_line, swept_rows, outcome_of_sweep}
+use Rattle.pg_steps.specs.Readings.{HeldFiles}
 use Rattle.pg_words.specs.forms.Sweep.{SweepRequest}
 use Rattle.pg_top.specs.sweep.Inside.Inputs.{line_of_sweep, rows_of_sets, outcome_of_sets}
 use Rattle.pg_steps.specs.declared.answers.Status.TheVariants.{Done}
@@ -27,16 +28,16 @@ sweep_made s terms sets found text line rows winner is_text is_line =
     ∙ ap (λ (w : ℕ). Ends Done ((s.output, sweep_file s.folds found.rows w) ∷ []) (winner_line w (slice_index (costs_of found.rows) (w - 1)))) (sym winner)
     ∙ (λ k. Ends Done ((s.output, sym is_text k) ∷ []) (sym is_line k))
 
--- what it promises, where no file ends the call
-pub sweep_promise : (s : SweepRequest) (files : HeldFiles) → first_end files (sweep_rule s).reads ≡ None → 1 ≤ length s.params → SweepPromise s files (outcome_of files (sweep_rule s))
-unfolding swept_rows
-sweep_promise s files none some = record {
-  winner = winner_of (costs_of (swept_rows files s));
-  text = sweep_file s.folds (swept_rows files s) (winner_of (costs_of (swept_rows files s)));
-  outcome = ap (λ end. unwrap_or end ((sweep_rule s).own_outcome files)) none;
-  wins = winner_wins (costs_of (swept_rows files s)) (many (costs_of (swept_rows files s)) (length-map (swept_rows files s) (λ (r : SweepRow). r.cost)
-      ∙ length-map (map (parameters_named files) s.params) (set_row (terms_in files s) s.bad s.missed) ∙ length-map s.params (parameters_named files)));
-}
+-- what it promises
+pub sweep_promise : (s : SweepRequest) (rows : List SweepRow) (files : HeldFiles) → swept_rows s files ≡ Some rows → outcome_of files (sweep_rule s) ≡ outcome_of_sweep s rows
+    → 1 ≤ length rows → KeepsPromise (sweep_rule s) files
+sweep_promise s rows files are comes some =
+    subst (λ (meant : Option (List SweepRow)). MatchOption meant ⊥ (λ rows. SweepPromise s rows (outcome_of files (sweep_rule s)))) (sym are) (record {
+      winner = winner_of (costs_of rows);
+      text = sweep_file s.folds rows (winner_of (costs_of rows));
+      outcome = comes;
+      wins = winner_wins (costs_of rows) (many (costs_of rows) (length-map rows (λ (r : SweepRow). r.cost)));
+    })
   where
-    many : (costs : List ℕ) → length costs ≡ length s.params → 1 ≤ length costs
+    many : (costs : List ℕ) → length costs ≡ length rows → 1 ≤ length costs
     many costs same = omega (arith, some)

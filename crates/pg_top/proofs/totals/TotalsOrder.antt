@@ -14,10 +14,9 @@ use Rattle.pg_dict.specs.DictionaryWords.{words}
 use Rattle.pg_types.specs.declared.packed_table.TheConstants.{TABLE_MAX}
 use Rattle.pg_table.specs.Forms.{sizes_of, is_well_formed}
 use Rattle.pg_steps.specs.FileCalls.{MakesCalls, read_calls}
-use Rattle.pg_steps.specs.Outcomes.{Ends}
-use Rattle.pg_steps.specs.Readings.{Reading, input_file}
+use Rattle.pg_steps.specs.Outcomes.{Outcome, Ends, known}
+use Rattle.pg_steps.specs.Readings.{Reading, meaning, input_file, file_under}
 use Rattle.pg_steps.specs.Inside.reading.ReadAs.{read_as}
-use Rattle.pg_steps.specs.Inside.reading.UnderTable.{file_under}
 use Rattle.pg_top.specs.totals.TotalsRule.{totals_rule, packed_table}
 use Rattle.pg_top.specs.totals.Inside.Inputs.{IsTotalled, totals_lines}
 use Rattle.pg_words.specs.forms.Totals.{TotalsRequest}
@@ -27,7 +26,7 @@ use Rattle.pg_steps.specs.declared.inputs.Input.TheVariants as input
 use Rattle.pg_steps.specs.declared.inputs.Stop.{Stop}
 use Rattle.pg_steps.proofs.Fronts.{IsReadUpTo, limited}
 use Rattle.pg_steps.proofs.Orders.{AreAccepted, accepted_all, mapped, both, held_later, stopped_behind}
-use Rattle.pg_steps.proofs.UnderTable.{HasTable, is_table, table_accepted, accepted_under, means_under, stopped_under}
+use Rattle.pg_steps.proofs.UnderTable.{HasTable, is_table, means, table_accepted, accepted_under, stopped_under}
 use Rattle.pg_steps.specs.Rules.{outcome_of}
 
 -- the first bytes of a table, one more than it may have, are read as the whole table is
@@ -55,11 +54,12 @@ totals_outcome p t ws lines files h is =
         (accepted_under p.translate t packed_table input.Table p.table b files h.0 is.1, tt),
       ),
     ) in
-    let is_t = is_table p.translate t files h.0 in
-    let is_ws = means_under p.translate t words [] p.dict ws files h.0 h.1 in
-    let is_b = means_under p.translate t packed_table [] p.table b files h.0 is.1 in
+    let by_table : List Word → List ℕ → Outcome = λ ws b. Ends Done [] (totals_lines t ws b) in
     ap (λ end. unwrap_or end ((totals_rule p).own_outcome (file_at files))) (accepted_all (file_at files) (totals_rule p).reads accepted)
-    ∙ (λ k. Ends Done [] (totals_lines (is_t k) (is_ws k) (is_b k)))
+    ∙ ap (λ (meant : Option Alphabet). known meant (λ t. known (meaning (words t) (file_at files) p.dict) (λ ws.
+    known (meaning (packed_table t) (file_at files) p.table) (λ b. Ends Done [] (totals_lines t ws b))))) (is_table p.translate t files h.0)
+    ∙ ap (λ (meant : Option (List Word)). known meant (λ ws. known (meaning (packed_table t) (file_at files) p.table) (by_table ws))) (means (words t) (file_at files) p.dict ws h.1)
+    ∙ ap (λ (meant : Option (List ℕ)). known meant (by_table ws)) (means (packed_table t) (file_at files) p.table b is.1)
     ∙ ap (Ends Done []) (sym is.2)
 
 pub totals_told : (p : TotalsRequest) (t : Alphabet) (ws : List Word) (lines : List ℕ) (h2 h3 : Option FileMap) → KeepsHeld h2 h3 → IfSome h2 (HasWords p t ws)
@@ -72,10 +72,10 @@ totals_told p t ws lines h2 h3 keeps two more =
 -- a stop at the packed table
 pub stopped_table : (p : TotalsRequest) (t : Alphabet) (ws : List Word) (s0 s2 s3 : FilesShown) (why : Stop) → NoneFell s0.read_faults s2.read_faults
     → MakesCalls s0 s3 (read_calls (totals_rule p).reads) → KeepsHeld s2.held s3.held → IfSome s2.held (HasWords p t ws)
-    → StopsAt (input_file input.Table p.table (λ _. packed_table t)) s2 s3 why → StopsReading (totals_rule p).reads s0 s3 why
+    → StopsAt (input_file input.Table p.table (packed_table t)) s2 s3 why → StopsReading (totals_rule p).reads s0 s3 why
 stopped_table p t ws s0 s2 s3 why fell calls keeps two stops =
     let later : IfSome s3.held (HasWords p t ws) = held_later s2.held s3.held (HasWords p t ws) keeps two in
-    let front : List Reading = input_file input.Translate p.translate (λ _. table) ∷ file_under p.translate input.Dictionary p.dict words ∷ [] in
+    let front : List Reading = input_file input.Translate p.translate table ∷ file_under p.translate input.Dictionary p.dict words ∷ [] in
     stopped_behind front (file_under p.translate input.Table p.table packed_table) [] s0 s2 s3 why fell calls
     (mapped s3.held (HasWords p t ws) (λ files. AreAccepted (file_at files) front)
     (λ files h. (table_accepted p.translate t files h.0, (accepted_under p.translate t words input.Dictionary p.dict ws files h.0 h.1, tt))) later)

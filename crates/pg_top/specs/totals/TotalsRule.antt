@@ -4,12 +4,14 @@ use Rattle.pg_types.specs.ValuesOrRefusals.{refusal_at}
 use Rattle.pg_types.specs.declared.refusals.Kind.TheVariants.{TableTooLong, BadTable, OtherTable}
 use Rattle.pg_types.specs.declared.refusals.Refusal.{Refusal}
 use Rattle.pg_translate.specs.Alphabets.{Alphabet, letters_of}
+use Rattle.pg_translate.specs.Tables.{table}
+use Rattle.pg_dict.specs.DictionaryWords.{words}
 use Rattle.pg_types.specs.declared.packed_table.TheConstants.{TABLE_MAX}
 use Rattle.pg_select.specs.CountedPositions.{minima_of}
 use Rattle.pg_table.specs.Lookups.{table_totals}
 use Rattle.pg_texts.specs.ReportTexts.{ending_text}
-use Rattle.pg_steps.specs.Outcomes.{Ends}
-use Rattle.pg_steps.specs.Readings.{translate_file, words_file, input_file, table_named, words_under, meaning}
+use Rattle.pg_steps.specs.Outcomes.{Ends, known}
+use Rattle.pg_steps.specs.Readings.{meaning, file_under, translate_file, words_file}
 use Rattle.pg_steps.specs.Rules.{CommandRule, usual_rule}
 use Rattle.pg_words.specs.forms.Totals.{TotalsRequest}
 use Rattle.pg_steps.specs.declared.answers.Status.TheVariants.{Done}
@@ -27,8 +29,9 @@ packed_table t b = if nat_lt TABLE_MAX (length b) then Err (refusal_at 0 TableTo
 abbrev pub totals_rule : TotalsRequest → CommandRule
 totals_rule n = record usual_rule {
   reads = translate_file n.translate ∷ words_file n.translate n.dict
-      ∷ input_file input.Table n.table (λ files. packed_table (table_named n.translate files)) ∷ [];
-  own_outcome = λ files. let t = table_named n.translate files in Ends Done [] (ending_text
-      (table_totals (minima_of t) (words_under files n.translate n.dict)
-      (meaning (packed_table t) [] files n.table)));
+      ∷ file_under n.translate input.Table n.table packed_table ∷ [];
+  own_outcome = λ files. known (meaning table files n.translate) (λ t.
+      known (meaning (words t) files n.dict) (λ ws.
+      known (meaning (packed_table t) files n.table) (λ b.
+      Ends Done [] (ending_text (table_totals (minima_of t) ws b)))));
 }

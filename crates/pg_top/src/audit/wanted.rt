@@ -1,5 +1,5 @@
 //! The texts that given files should be.
-ghost use Rattle.std.specs.Prelude.{◌≡◌, IfOk, None};
+ghost use Rattle.std.specs.Prelude.{◌≡◌, IfOk, None, Some};
 ghost use Rattle.pg_words.specs.Inside.CommandRequests.{texts_of};
 ghost use Rattle.pg_top.specs.Inside.selection.SelectionSigns.{HasSigns};
 ghost use Rattle.pg_top.specs.Inside.selection.SelectedRuns.{IsNew};
@@ -24,7 +24,7 @@ pub fn make_wanted<'a, W: Watch>(
     requires signs { HasSigns inputs.now }
     requires cells { names.now.cells ≡ None }
     ensures { IfOk result (λ wanted.
-        wanted_files wanted.items ≡ given_files (λ _. inputs.now) (texts_of names.now)) }
+        wanted_files wanted.items ≡ given_files (λ _. Some inputs.now) (texts_of names.now)) }
 {
     watch.selects(names.patterns, &inputs.params, &inputs.start);
     let engine = PlainEngine::new(alloc, inputs.table.letters() + 1, &inputs.start)?;
@@ -46,7 +46,7 @@ fn run_wanted<'a, E: Engine>(
     requires signs { HasSigns inputs.now }
     requires cells { names.now.cells ≡ None }
     ensures { IfOk result (λ wanted.
-        wanted_files wanted.items ≡ given_files (λ _. inputs.now) (texts_of names.now)) }
+        wanted_files wanted.items ≡ given_files (λ _. Some inputs.now) (texts_of names.now)) }
 {
     let run = select(alloc, engine, inputs)?;
     let wanted = make_selected(alloc, names, inputs, engine, &run)?;

@@ -86,7 +86,7 @@ pub fn make_table<'a, W: Watch>(
 ) -> Result<BuiltTexts<'a>, Stop<'a>>
     requires { SignsUpTo (letters_of source.now.table + 1) source.now.patterns }
     ensures made { IfOk result
-        (λ made. outcome_of_pack name.now source.now.table source.now.patterns
+        (λ made. outcome_of_pack name.now source.now
         ≡ Ends Done (writing_of made.files.items) made.lines.items) }
     ensures named { IfOk result
         (λ made. written_names (writing_of made.files.items) ≡ name.now ∷ []) }
@@ -99,7 +99,7 @@ pub fn make_table<'a, W: Watch>(
     ensures gives { IfOk result (λ _.
         GivesValues (packed_text source.now.table source.now.patterns) source.now.patterns) }
     ensures stopped { IfErr result
-        (StopsMaking (outcome_of_pack name.now source.now.table source.now.patterns)) }
+        (StopsMaking (outcome_of_pack name.now source.now)) }
 {
     match table_text(alloc, source.table.letters() + 1, &source.patterns) {
         Ok(text) => {

@@ -77,7 +77,7 @@ pub fn total_by<'a, F: Files, W: Watch>(
     ensures ok { IfOk result (λ lines. IfSome (F.shown files.new).held (λ files.
         IsTotalled table.now dictionary.now (file_at files) name.now lines.items)) }
     ensures stopped { IfErr result
-        (StopsAt (input_file Input.Table name.now (λ _. packed_table table.now))
+        (StopsAt (input_file Input.Table name.now (packed_table table.now))
         (F.shown files.old) (F.shown files.new)) }
 {
     let bytes = read_front(alloc, name, TABLE_MAX, files, watch)?;

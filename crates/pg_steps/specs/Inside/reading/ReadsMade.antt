@@ -18,7 +18,7 @@ pub record ReadsInput {Y : Type 0} (input : Input) (name : List ℕ)
   pub calls : MakesCalls old new (Reads name ∷ [])
   pub ok : IfOk result
       (λ y. IfSome new.held (λ files. read_as parse (file_at files) name ≡ Some (Ok y)))
-  pub stopped : IfErr result (StopsAt (input_file input name (λ _. parse)) old new)
+  pub stopped : IfErr result (StopsAt (input_file input name parse) old new)
 
 -- files were read in their order: once each, and they are accepted as this; or reading stopped
 pub record ReadsFiles {Y : Type 0} (reads : List Reading) (old new : FilesShown)

@@ -5,7 +5,7 @@ use Rattle.pg_top.specs.audit.AuditRule.{audit_rule}
 use Rattle.pg_words.specs.Inside.CommandRequests.{texts_of}
 use Rattle.pg_steps.specs.Readings.{first_end}
 use Rattle.pg_words.specs.forms.Generate.{FileNames}
-use Rattle.pg_top.specs.generate.GenerateRule.{inputs_in}
+use Rattle.pg_top.specs.generate.GenerateRule.{generate_inputs}
 use Rattle.pg_top.specs.generate.Inside.AcceptedInputs.{input_reads, HasInputs}
 use Rattle.pg_top.specs.audit.Inside.Verdicts.{wanted_files, given_files, end_of, outcome_by}
 use Rattle.pg_steps.specs.declared.inputs.Stop.TheVariants.{Memory}
@@ -29,7 +29,7 @@ returns-in_err-inputs g c =
       ok = IfOk-from_err r _ c.from_residual.ensures.0;
       counted = IfOk-from_err r _ c.from_residual.ensures.0;
       stopped = that_error r (StopsReading (audit_rule n).reads s0 s1) c.in_err-inputs.field-0.0 is
-          (stopped_in_front (input_reads n) (given_files (λ files. inputs_in files n) n) s0 s1 c.in_err-inputs.field-0.0 c.in_err-inputs.ensures.read.stopped);
+          (stopped_in_front (input_reads n) (given_files (generate_inputs n) n) s0 s1 c.in_err-inputs.field-0.0 c.in_err-inputs.ensures.read.stopped);
     }
 
 pub returns-in_err-wanted : goal.returns-in_err-wanted
@@ -44,7 +44,7 @@ returns-in_err-wanted g c =
       ok = IfOk-from_err r _ c.from_residual-in_err-wanted.ensures.0;
       counted = IfOk-from_err r _ c.from_residual-in_err-wanted.ensures.0;
       stopped = that_error r (StopsReading (audit_rule n).reads s0 s1) Memory is
-          (stopped_in_front (input_reads n) (given_files (λ files. inputs_in files n) n) s0 s1 Memory
+          (stopped_in_front (input_reads n) (given_files (generate_inputs n) n) s0 s1 Memory
           (inputs_wanted n c.in_ok-inputs.inputs s0 s1 c.in_ok-inputs.ensures.read.counted c.in_ok-inputs.ensures.read.ok));
     }
 

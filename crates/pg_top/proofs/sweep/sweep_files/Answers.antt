@@ -5,16 +5,16 @@ use Rattle.pg_outside.specs.Content.{file_at}
 use Rattle.pg_words.specs.Inside.CommandRequests.{sweep_of}
 use Rattle.pg_steps.specs.Outcomes.{Ends}
 use Rattle.pg_steps.specs.Inside.ends.BuiltTexts.{KeepsPromise}
-use Rattle.pg_top.specs.sweep.Inside.Inputs.{terms_of}
+use Rattle.pg_top.specs.sweep.Inside.Inputs.{terms_of, rows_of_sets}
 use Rattle.pg_top.specs.sweep.Inside.AcceptedInputs.{HasSweep}
 use Rattle.pg_steps.specs.Inside.writing.WritesMade.{writing_of}
 use Rattle.pg_steps.specs.declared.answers.Status.TheVariants.{Done}
 use Rattle.pg_steps.specs.declared.inputs.Stop.TheVariants.{Memory}
 use Rattle.pg_top.proofs.Calls.{stops_reading}
 use Rattle.pg_top.proofs.ReadsStopped.{building_stopped}
-use Rattle.pg_steps.proofs.Orders.{AreAccepted, accepted_all, mapped, wanted_after}
+use Rattle.pg_steps.proofs.Orders.{AreAccepted, mapped, wanted_after}
 use Rattle.pg_top.proofs.sweep.SweepTexts.{sweep_promise}
-use Rattle.pg_top.proofs.sweep.SweepOrder.{sweep_accepted, sweep_outcome}
+use Rattle.pg_top.proofs.sweep.SweepOrder.{sweep_accepted, sweep_outcome, rows_given, rows_many}
 use Rattle.pg_top.proofs.sweep.sweep_files.Goals as goal
 use Rattle.pg_steps.specs.Rules.{outcome_of}
 use Rattle.pg_top.specs.sweep.SweepRule.{sweep_rule}
@@ -35,7 +35,8 @@ returns g c =
             (λ files h. sweep_outcome s terms sets files h ∙ c.in_ok-outputs.ensures.made) c.in_ok-inputs.ensures.read.ok;
         named = c.in_ok-outputs.ensures.named;
         promise = mapped s1.held (λ files. HasSweep (file_at files) s terms sets) (λ files. KeepsPromise (sweep_rule s) (file_at files))
-            (λ files h. sweep_promise s (file_at files) (accepted_all (file_at files) (sweep_rule s).reads (sweep_accepted s terms sets files h)) some) c.in_ok-inputs.ensures.read.ok;
+            (λ files h. sweep_promise s (rows_of_sets s terms sets) (file_at files) (rows_given s terms sets files h) (sweep_outcome s terms sets files h)
+            (subst (λ n. 1 ≤ n) (sym (rows_many s terms sets files h)) some)) c.in_ok-inputs.ensures.read.ok;
         counted = c.in_ok-inputs.ensures.read.counted;
       };
       stopped = tt;

@@ -3,13 +3,12 @@ use Rattle.pg_dict.specs.DictionaryWords.{words}
 use Rattle.pg_outside.specs.Content.{FilesShown, file_at}
 use Rattle.pg_outside.specs.FilesCalls.{Reads}
 use Rattle.pg_translate.specs.Tables.{table}
-use Rattle.pg_steps.specs.Readings.{input_file}
+use Rattle.pg_steps.specs.Readings.{input_file, file_under}
 use Rattle.pg_steps.specs.Outcomes.{Ends}
 use Rattle.pg_steps.specs.Inside.ends.BuiltTexts.{KeepsPromise}
 use Rattle.pg_steps.specs.Inside.writing.WritesMade.{written_names, writing_of}
 use Rattle.pg_steps.specs.declared.writes.OutputFile.{OutputFile}
 use Rattle.pg_steps.specs.declared.answers.Status.TheVariants.{Done}
-use Rattle.pg_steps.specs.Inside.reading.UnderTable.{file_under}
 use Rattle.pg_top.specs.totals.TotalsRule.{totals_rule, packed_table}
 use Rattle.pg_words.specs.Inside.CommandRequests.{totals_request_of}
 use Rattle.pg_words.specs.forms.Totals.{TotalsRequest}
@@ -62,7 +61,7 @@ returns-in_err-letters g c =
     let n = p.table in
     let s0 : FilesShown = g.F.Files.shown c.args.files.now in
     let s1 : FilesShown = g.F.Files.shown c.read_table.new.files in
-    let reading = stopped_first (input_file input.Translate t (λ _. table))
+    let reading = stopped_first (input_file input.Translate t table)
     (file_under t input.Dictionary d words ∷ file_under t input.Table n packed_table ∷ []) s0 s1 c.in_err-letters.field-0.0 c.read_table.ensures.calls c.in_err-letters.ensures.stopped in
     building_stopped (totals_rule p) s0 s1 c.from_residual.result c.in_err-letters.field-0.0 c.from_residual.ensures.1 c.read_table.ensures.only
     (stops_reading (totals_rule p) s0 s1 c.in_err-letters.field-0.0 reading)

@@ -33,7 +33,7 @@ abbrev pub wanted_files : List SelectedFile → List Reading
 wanted_files ws = map wanted_file ws
 
 -- the given files of these names, as they are read and compared by these inputs
-abbrev pub given_files : (HeldFiles → Inputs) → FileNames → List Reading
+abbrev pub given_files : (HeldFiles → Option Inputs) → FileNames → List Reading
 given_files inputs n = map (given_file inputs) (selected_names n)
 
 -- the outcome where a line is false, and none where all lines are right

@@ -6,4 +6,4 @@ use Rattle.pg_steps.specs.declared.inputs.Input.TheVariants as input
 
 -- the parameter file with this number, as it is read
 abbrev pub set_file : ℕ → List ℕ → Reading
-set_file number name = input_file (input.Set number) name (λ files. parameters)
+set_file number name = input_file (input.Set number) name parameters

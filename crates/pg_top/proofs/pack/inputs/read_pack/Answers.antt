@@ -5,8 +5,7 @@ use Rattle.pg_outside.specs.Content.{FilesShown}
 use Rattle.pg_outside.specs.FilesCalls.{Reads}
 use Rattle.pg_translate.specs.Tables.{table}
 use Rattle.pg_words.specs.Inside.CommandRequests.{pack_of}
-use Rattle.pg_steps.specs.Readings.{input_file}
-use Rattle.pg_steps.specs.Inside.reading.UnderTable.{file_under}
+use Rattle.pg_steps.specs.Readings.{input_file, file_under}
 use Rattle.pg_steps.specs.declared.inputs.Input.TheVariants.{Translate, Patterns}
 use Rattle.pg_steps.proofs.CountedCalls.{calls_on}
 use Rattle.pg_top.proofs.pack.PackOrder.{source_read}
@@ -26,7 +25,7 @@ returns-in_err-table g c =
     let is = c.from_residual.ensures.1 in
     record {
       read = files_stopped _ s0 s1 r _ c.in_err-table.field-0.0 is first.only
-          (stopped_first (input_file Translate t (λ _. table)) (file_under t Patterns P start ∷ []) s0 s1 c.in_err-table.field-0.0 first.calls c.in_err-table.ensures.stopped);
+          (stopped_first (input_file Translate t table) (file_under t Patterns P start ∷ []) s0 s1 c.in_err-table.field-0.0 first.calls c.in_err-table.ensures.stopped);
       known = IfOk-from_err r _ c.from_residual.ensures.0;
     }
 

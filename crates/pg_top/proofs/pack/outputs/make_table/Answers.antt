@@ -26,7 +26,7 @@ returns-in_ok-outputs-in-Ok g c =
     let lines = c.in_ok-outputs-in-Ok.ensures.lines ∙ ap (λ (b : List ℕ). packed_line (pattern_text t P) b) text in
     let well : is_well_formed (packed_text t P) ≡ true = ap is_well_formed (sym text) ∙ c.in-Ok.ensures.well_formed in
     record {
-      made = packed_short name t P short ∙ (λ k. Ends Done (sym files k) (sym lines k));
+      made = packed_short name c.args.source.now short ∙ (λ k. Ends Done (sym files k) (sym lines k));
       named = ap written_names c.in_ok-outputs-in-Ok.ensures.files;
       table = files;
       accepted = packed_accepted t P (omega (arith, c.letters.ensures.value, c.letters.ensures.few)) short well;
@@ -45,5 +45,5 @@ returns-in-Err g c =
       table = tt;
       accepted = tt;
       gives = tt;
-      stopped = rw c.table_stop.ensures (stops_making c.args.name.now t P c.in-Err.error long);
+      stopped = rw c.table_stop.ensures (stops_making c.args.name.now c.args.source.now c.in-Err.error long);
     }

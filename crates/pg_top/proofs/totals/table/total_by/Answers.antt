@@ -58,7 +58,7 @@ pub returns-in_err-bytes : goal.returns-in_err-bytes
 returns-in_err-bytes g c =
     let s0 : FilesShown = g.F.Files.shown c.args.files.now in
     let s1 : FilesShown = g.F.Files.shown c.read_front.new.files in
-    let file : Reading = input_file input.Table c.args.name.now (λ _. packed_table c.args.table.now) in
+    let file : Reading = input_file input.Table c.args.name.now (packed_table c.args.table.now) in
     let r = c.from_residual.result in
     let is = c.from_residual.ensures.1 in
     record {
