@@ -1,6 +1,7 @@
 -- The ends of the commands, and of arguments that are none.
-use Rattle.std.proofs.Common.{◌≡◌, List, [], ◌∷◌, Contains, Option, None, Some, IfSome, MatchOption, inl, inr, refl, sym, subst, ◌∙◌, arith}
-use Rattle.std.specs.Prelude.{ℕ, Result, Ok, Err, ◌⊎◌}
+use Rattle.std.proofs.Common.{◌≡◌, List, [], ◌∷◌, Contains, Option, None, Some, IfSome, MatchOption, inl, inr, refl, sym, ap, subst, ◌∙◌, arith}
+use Rattle.std.specs.Option.{option_map}
+use Rattle.std.specs.Prelude.{ℕ, ◌≤◌, Result, Ok, Err, ◌⊎◌, unwrap_or}
 use Rattle.pg_outside.specs.Content.{FileMap, FilesShown, SinkShown, WasPut, WasPartPut, file_at}
 use Rattle.pg_top.specs.Answers.{IsCall}
 use Rattle.pg_top.specs.CommandRules.{rule_of, usage_rule}
@@ -16,14 +17,19 @@ use Rattle.pg_steps.specs.Rules.{CommandRule, outcome_of}
 use Rattle.pg_top.specs.WholeCalls.{IsRun}
 use Rattle.pg_steps.specs.Writings.{after_all}
 use Rattle.pg_top.specs.audit.AuditRule.{audit_rule}
-use Rattle.pg_top.specs.sample.SampleRule.{sample_lines, sample_rule}
+use Rattle.pg_top.specs.sample.SampleRule.{sample_inputs, sample_lines, sample_rule}
+use Rattle.pg_top.specs.sample.Inside.Lines.{printed_lines}
+use Rattle.pg_top.specs.declared.selection.Inputs.{Inputs}
+use Rattle.pg_words.specs.declared.limits.TheConstants.{COUNT_MAX}
+use Rattle.pg_steps.specs.Inside.writing.Puts.{Puts}
+use Rattle.pg_top.proofs.sample.SampleReads.{sample_given}
 use Rattle.pg_steps.specs.declared.answers.Status.{Status}
 use Rattle.pg_steps.specs.declared.answers.Status.TheVariants.{Done, Usage, Refused, Fault, Memory}
 use Rattle.pg_steps.specs.declared.inputs.Stop.{Stop}
 use Rattle.pg_steps.specs.declared.writes.BuiltTexts.{BuiltTexts}
 use Rattle.pg_words.specs.Requests.{Request, ToAudit, ToSample}
 use Rattle.pg_words.specs.forms.Generate.{FileNames}
-use Rattle.pg_top.proofs.Calls.{IsEnd, finished_call, stopped_command, usage_call, sample_call}
+use Rattle.pg_top.proofs.Calls.{IsEnd, finished_call, stopped_command, usage_call, sample_call, sample_outcome}
 use Rattle.pg_steps.proofs.CountedCalls.{no_calls}
 use Rattle.pg_top.proofs.CountedEnds.{counted_finish, counted_line, counted_stop}
 use Rattle.pg_top.proofs.Promised.{promised, stop_not_done}
@@ -83,21 +89,38 @@ usage_run files s o0 o1 answer line puts = record {
 }
 
 -- `sample`, which has no files
-pub sample_run : {F : Type 0} (seed count : ℕ) (files : F) (s : FilesShown) (o0 o1 : SinkShown) (answer : Status) → PutsLines (sample_lines seed count) answer o0 o1
-    → MakesLinePuts answer o0 o1 → IsRun (Some (ToSample seed count)) answer files files (s, o0) (s, o1)
-sample_run seed count files s o0 o1 answer lines puts = record {
-  call = sample_call seed count s o0 o1 answer lines puts;
-  counted = counts lines;
+pub sample_run : {F : Type 0} (seed count : ℕ) (files : F) (s : FilesShown) (o0 o1 : SinkShown) (answer : Status) → count ≤ COUNT_MAX
+    → PutsLines (printed_lines seed count) answer o0 o1 → MakesLinePuts answer o0 o1 → IsRun (Some (ToSample seed count)) answer files files (s, o0) (s, o1)
+sample_run seed count files s o0 o1 answer few lines puts = record {
+  call = sample_call seed count i s o0 o1 answer given (are lines) puts;
+  counted = counts (are lines);
   promised = λ _. nothing_kept s;
-  unread = λ _. (refl, put lines);
+  unread = λ _. (
+    refl,
+    subst (λ end. IsKnown end (λ wanted writing lines. (answer ≡ wanted → WasPut o0.text o1.text lines) × (answer ≡ Fault → WasPartPut o0.text o1.text lines)))
+        (sym (sample_outcome seed count i given)) (put (are lines)),
+  );
 }
   where
-    put : PutsLines (sample_lines seed count) answer o0 o1
-        → (answer ≡ Done → WasPut o0.text o1.text (sample_lines seed count)) × (answer ≡ Fault → WasPartPut o0.text o1.text (sample_lines seed count))
-    put (inl h) = (λ is. absurd (let wanted = h.0 in cc), λ is. absurd (let wanted = h.0 in cc))
-    put (inr h) = lines_put Done answer (sample_lines seed count) o0 o1 tt h
+    i : Inputs
+    i = (sample_given seed count few).0
 
-    counts : PutsLines (sample_lines seed count) answer o0 o1 → MakesAnswerCalls (sample_rule seed count) answer (s, o0) (s, o1)
+    given : sample_inputs seed count ≡ Some i
+    given = (sample_given seed count few).1
+
+    -- the lines that were put are those of the selection
+    are : PutsLines (printed_lines seed count) answer o0 o1 → ((answer ≡ Memory) × Puts o0 o1 []) ⊎ PutsAnswer (sample_lines i) Done answer o0 o1
+    are (inl h) = inl h
+    are (inr h) =
+        let both : Some h.0 ≡ Some (sample_lines i) = sym h.1 ∙ ap (option_map sample_lines) given in
+        inr (subst (λ (lines : List ℕ). PutsAnswer lines Done answer o0 o1) (ap (λ (o : Option (List ℕ)). unwrap_or o []) both) h.2)
+
+    put : ((answer ≡ Memory) × Puts o0 o1 []) ⊎ PutsAnswer (sample_lines i) Done answer o0 o1
+        → (answer ≡ Done → WasPut o0.text o1.text (sample_lines i)) × (answer ≡ Fault → WasPartPut o0.text o1.text (sample_lines i))
+    put (inl h) = (λ is. absurd (let wanted = h.0 in cc), λ is. absurd (let wanted = h.0 in cc))
+    put (inr h) = lines_put Done answer (sample_lines i) o0 o1 tt h
+
+    counts : ((answer ≡ Memory) × Puts o0 o1 []) ⊎ PutsAnswer (sample_lines i) Done answer o0 o1 → MakesAnswerCalls (sample_rule seed count) answer (s, o0) (s, o1)
     counts (inl h) = subst (λ (answer : Status). MakesAnswerCalls (sample_rule seed count) answer (s, o0) (s, o1)) (sym h.0)
         (inl refl, subst (λ (answer : Status). MakesLinePuts answer o0 o1) h.0 puts)
     counts (inr (inl h)) = subst (λ (answer : Status). MakesAnswerCalls (sample_rule seed count) answer (s, o0) (s, o1)) (sym h.0)

@@ -1,6 +1,6 @@
 -- What is said of the answer of a command at each of its ends.
 use Rattle.std.proofs.Common.{◌≡◌, ℕ, ◌+◌, arith, List, [], Contains, take, Option, None, Some, IfSome, MatchOption, inl, inr, refl, sym, ap, ◌∙◌, subst}
-use Rattle.std.specs.Prelude.{slice_get, unwrap_or}
+use Rattle.std.specs.Prelude.{slice_get, unwrap_or, ◌⊎◌}
 use Rattle.std.proofs.lemmas.Option.{slice_get-map}
 use Rattle.std.specs.Option.{option_map}
 use Rattle.pg_types.specs.declared.refusals.Refusal.{Refusal}
@@ -13,14 +13,14 @@ use Rattle.pg_steps.specs.Inside.reading.ReadCalls.{write_calls}
 use Rattle.pg_steps.specs.Inside.writing.PutCounts.{MakesStopPuts, MakesLinePuts}
 use Rattle.pg_steps.specs.Moments.{Moment, PutOrRose}
 use Rattle.pg_steps.specs.Inside.writing.Puts.{Puts, PutsPart, PutRose}
-use Rattle.pg_steps.specs.Outcomes.{Outcome, Ends, Writing, IsKnown}
+use Rattle.pg_steps.specs.Outcomes.{Outcome, Ends, Writing, IsKnown, known}
 use Rattle.pg_steps.specs.Inside.ends.Refusing.{refuses}
 use Rattle.pg_top.specs.PrintedLines.{usage_line}
 use Rattle.pg_steps.specs.RefusedLines.{refused_line}
 use Rattle.pg_steps.specs.Inside.writing.FaultLines.{reading_line, writing_line}
 use Rattle.pg_steps.specs.Readings.{first_end}
-use Rattle.pg_top.specs.sample.SampleRule.{sample_rule, sample_lines}
-use Rattle.pg_steps.specs.Inside.ends.Stops.{ReadRose, ReadRoseAt, StopsWith, StopsReading, StopsCommandWith, StopsCommand, PutsAnswer, PutsLines, PutsStop, Finishes}
+use Rattle.pg_top.specs.sample.SampleRule.{sample_rule, sample_inputs, sample_lines}
+use Rattle.pg_steps.specs.Inside.ends.Stops.{ReadRose, ReadRoseAt, StopsWith, StopsReading, StopsCommandWith, StopsCommand, PutsAnswer, PutsStop, Finishes}
 use Rattle.pg_steps.specs.Writings.{after_all, IsPartWritten}
 use Rattle.pg_steps.specs.Inside.writing.WritesMade.{written_names, WroteAll, WriteFailedAt}
 use Rattle.pg_steps.specs.declared.answers.Status.{Status}
@@ -28,6 +28,7 @@ use Rattle.pg_steps.specs.declared.answers.Status.TheVariants.{Done, Usage, Refu
 use Rattle.pg_steps.specs.declared.inputs.Input.{Input}
 use Rattle.pg_steps.specs.declared.inputs.Stop.{Stop}
 use Rattle.pg_steps.specs.declared.inputs.Stop.TheVariants as stop
+use Rattle.pg_top.specs.declared.selection.Inputs.{Inputs}
 use Rattle.pg_steps.proofs.CountedCalls.{no_calls, calls_on, calls_are}
 use Rattle.pg_top.proofs.CountedEnds.{refused_counted, whole_calls}
 use Rattle.pg_steps.proofs.Faults.{rose_since}
@@ -261,14 +262,18 @@ pub usage_call : (s : FilesShown) (o0 o1 : SinkShown) (answer : Status) → Puts
 usage_call s o0 o1 answer h puts = answered_call usage_rule Usage usage_line s s o0 o1 answer tt (0, omega arith, refl) (no_calls s, puts)
     (held_still s.held) (of_held s.held (λ files. outcome_of (file_at files) usage_rule ≡ Ends Usage [] usage_line) (λ files. refl)) h
 
+-- what `sample` comes to by its selection
+pub sample_outcome : (seed count : ℕ) (i : Inputs) → sample_inputs seed count ≡ Some i → known (sample_inputs seed count) (λ i. Ends Done [] (sample_lines i)) ≡ Ends Done [] (sample_lines i)
+sample_outcome seed count i given = ap (λ (meant : Option Inputs). known meant (λ i. Ends Done [] (sample_lines i))) given
+
 -- `sample` reads and writes nothing
-pub sample_call : (seed count : ℕ) (s : FilesShown) (o0 o1 : SinkShown) (answer : Status) → PutsLines (sample_lines seed count) answer o0 o1
-    → MakesLinePuts answer o0 o1 → IsCall (sample_rule seed count) answer (s, o0) (s, o1)
-sample_call seed count s o0 o1 answer (inl h) puts = memory_call (sample_rule seed count) s s o0 o1 answer (1, omega arith, refl) (held_still s.held) h.0 h.1
-sample_call seed count s o0 o1 answer (inr h) puts = answered_call (sample_rule seed count) Done (sample_lines seed count) s s o0 o1 answer tt
+pub sample_call : (seed count : ℕ) (i : Inputs) (s : FilesShown) (o0 o1 : SinkShown) (answer : Status) → sample_inputs seed count ≡ Some i
+    → ((answer ≡ Memory) × Puts o0 o1 []) ⊎ PutsAnswer (sample_lines i) Done answer o0 o1 → MakesLinePuts answer o0 o1 → IsCall (sample_rule seed count) answer (s, o0) (s, o1)
+sample_call seed count i s o0 o1 answer given (inl h) puts = memory_call (sample_rule seed count) s s o0 o1 answer (1, omega arith, refl) (held_still s.held) h.0 h.1
+sample_call seed count i s o0 o1 answer given (inr h) puts = answered_call (sample_rule seed count) Done (sample_lines i) s s o0 o1 answer tt
     (0, omega arith, refl) (no_calls s, at_once h) (held_still s.held)
-    (of_held s.held (λ files. outcome_of (file_at files) (sample_rule seed count) ≡ Ends Done [] (sample_lines seed count)) (λ files. refl)) h
+    (of_held s.held (λ files. outcome_of (file_at files) (sample_rule seed count) ≡ Ends Done [] (sample_lines i)) (λ files. sample_outcome seed count i given)) h
   where
-    at_once : PutsAnswer (sample_lines seed count) Done answer o0 o1 → MakesPuts o0 o1 1
+    at_once : PutsAnswer (sample_lines i) Done answer o0 o1 → MakesPuts o0 o1 1
     at_once (inl is) = subst (λ (answer : Status). MakesLinePuts answer o0 o1) is.0 puts
     at_once (inr is) = subst (λ (answer : Status). MakesLinePuts answer o0 o1) is.0 puts

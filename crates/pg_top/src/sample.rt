@@ -1,12 +1,13 @@
 //! `sample`: the selection on a dictionary that is made from a number.
-ghost use Rattle.std.specs.Prelude.{◌≡◌, ◌+◌, ◌≤◌, ◌++◌, IfOk, OnOk};
+ghost use Rattle.std.specs.Prelude.{◌≡◌, ◌+◌, ◌≤◌, ◌++◌, IfOk, OnOk, Some, Ok};
+ghost use Rattle.pg_dict.specs.DictionaryWords.{words};
 ghost use Rattle.pg_words.specs.declared.limits.TheConstants.{COUNT_MAX};
 ghost use Rattle.pg_translate.specs.Alphabets.{letters_of};
 ghost use Rattle.pg_translate.specs.Tables.{default_alphabet};
 ghost use Rattle.pg_dict.specs.Inside.SoundWords.{SignsAtMost};
 ghost use Rattle.pg_steps.specs.Inside.writing.PutCounts.{MakesLinePuts};
-ghost use Rattle.pg_top.specs.sample.SampleRule.{is_printed as is_printed_line, sample_inputs, sample_lines as lines_of, sample_parameters};
-ghost use Rattle.pg_top.specs.sample.Inside.Lines.{printed_part, selection_lines};
+ghost use Rattle.pg_top.specs.sample.SampleRule.{is_printed as is_printed_line, sample_inputs, sample_lines as lines_of, sample_parameters, sample_text as made_text};
+ghost use Rattle.pg_top.specs.sample.Inside.Lines.{printed_part, printed_lines};
 ghost use Rattle.pg_top.specs.Inside.selection.SelectionSigns.{HasSigns};
 ghost use Rattle.pg_top.specs.Inside.selection.SelectedRuns.{IsNew, TellsSelection};
 ghost use Rattle.pg_steps.specs.Inside.ends.Stops.{PutsLines};
@@ -23,7 +24,6 @@ use pg_patterns::PatternSet;
 use pg_select::Engine;
 use pg_steps::{Status, answer};
 use pg_translate::Table;
-use pg_translate::laws::keeps_rules;
 use pg_types::{Params, ReadingError, next_line, read_params};
 use pg_watch::{Watch, Watched};
 use std::alloc::{AllocError, Global};
@@ -61,11 +61,11 @@ fn sample_dictionary(
 ) -> Result<Dictionary, AllocError>
     requires table { table.now ≡ default_alphabet }
     requires count { count ≤ COUNT_MAX }
-    ensures words { IfOk result (λ dictionary. dictionary ≡ (sample_inputs seed count).dictionary) }
+    ensures words { IfOk result
+        (λ dictionary. words default_alphabet (made_text seed count) ≡ Ok dictionary) }
     ensures signs { IfOk result (SignsAtMost (letters_of table.now + 1)) }
 {
     let text = sample_text(alloc, seed, count)?;
-    keeps_rules(table);
     match Dictionary::read(alloc, table, &text) {
         Ok(dictionary) => Ok(dictionary),
         Err(error) => Err(only_memory(error)),
@@ -75,7 +75,7 @@ fn sample_dictionary(
 /// What the selection is made of.
 fn make_inputs(alloc: Global, seed: u32, count: u32) -> Result<Inputs, AllocError>
     requires { count ≤ COUNT_MAX }
-    ensures inputs { IfOk result (λ inputs. inputs ≡ sample_inputs seed count) }
+    ensures inputs { IfOk result (λ inputs. sample_inputs seed count ≡ Some inputs) }
     ensures signs { IfOk result HasSigns }
 {
     let table = Table::default_letters(alloc)?;
@@ -114,7 +114,7 @@ fn push_printed(lines: &mut Vec<u8>, report: &[u8]) -> Result<(), AllocError>
 /// The printed lines, after the run.
 fn lines_after(alloc: Global, inputs: &Inputs, run: &Run) -> Result<Vec<u8>, AllocError>
     requires told { TellsSelection inputs.now run.now }
-    ensures { IfOk result (λ lines. lines.items ≡ selection_lines inputs.now) }
+    ensures { IfOk result (λ lines. lines.items ≡ lines_of inputs.now) }
 {
     let patterns = pattern_file(alloc, inputs, run)?;
     let report = report_file(alloc, inputs, run)?;
@@ -129,7 +129,7 @@ fn lines_after(alloc: Global, inputs: &Inputs, run: &Run) -> Result<Vec<u8>, All
 /// told of the passes.
 fn run_lines<W: Watch>(alloc: Global, inputs: &Inputs, watch: &W) -> Result<Vec<u8>, AllocError>
     requires { HasSigns inputs.now }
-    ensures { IfOk result (λ lines. lines.items ≡ selection_lines inputs.now) }
+    ensures { IfOk result (λ lines. lines.items ≡ lines_of inputs.now) }
 {
     let engine = PackedEngine::new(alloc, inputs.table.letters() + 1, &inputs.start)?;
     let mut engine = Watched::new(engine, &inputs.params, watch);
@@ -146,7 +146,7 @@ fn lines_by<E: Engine>(
 ) -> Result<Vec<u8>, AllocError>
     requires new { IsNew inputs.now (E.meaning engine.old) }
     requires signs { HasSigns inputs.now }
-    ensures { IfOk result (λ lines. lines.items ≡ selection_lines inputs.now) }
+    ensures { IfOk result (λ lines. lines.items ≡ lines_of inputs.now) }
 {
     let run = select(alloc, engine, inputs)?;
     lines_after(alloc, inputs, &run)
@@ -160,7 +160,7 @@ fn sample_lines<W: Watch>(
     watch: &W,
 ) -> Result<Vec<u8>, AllocError>
     requires { count ≤ COUNT_MAX }
-    ensures { IfOk result (λ lines. lines.items ≡ lines_of seed count) }
+    ensures { IfOk result (λ lines. printed_lines seed count ≡ Some lines.items) }
 {
     let inputs = make_inputs(alloc, seed, count)?;
     run_lines(alloc, &inputs, watch)
@@ -175,7 +175,7 @@ pub fn sample<O: Sink, W: Watch>(
     watch: &W,
 ) -> Status
     requires { count ≤ COUNT_MAX }
-    ensures put { PutsLines (lines_of seed count) result (O.shown out.old) (O.shown out.new) }
+    ensures put { PutsLines (printed_lines seed count) result (O.shown out.old) (O.shown out.new) }
     ensures counted { MakesLinePuts result (O.shown out.old) (O.shown out.new) }
 {
     match sample_lines(alloc, seed, count, watch) {

@@ -24,14 +24,14 @@ use Rattle.pg_translate.proofs.Firsts.{find_among, found_passes}
 use Rattle.pg_translate.proofs.Walks.{sign_within}
 
 -- each element passes a test that all pass
-list_all_at : (test : ℕ × List ℕ → Bool) (spellings : List (ℕ × List ℕ)) (s : ℕ × List ℕ) → list_all test spellings ≡ true → IsAmong s spellings → test s ≡ true
+pub list_all_at : (test : ℕ × List ℕ → Bool) (spellings : List (ℕ × List ℕ)) (s : ℕ × List ℕ) → list_all test spellings ≡ true → IsAmong s spellings → test s ≡ true
 list_all_at test [] s all among = absurd among
 list_all_at test (x ∷ xs) s all among =
     ⊎_elim (λ (here : s ≡ x). subst (λ (y : ℕ × List ℕ). test y ≡ true) (sym here) (and_parts (test x) (list_all test xs) all).0)
     (λ (later : IsAmong s xs). list_all_at test xs s (and_parts (test x) (list_all test xs) all).1 later) among
 
 -- a letter that has a first spelling has it among its spellings
-first_is_among : (spellings : List (ℕ × List ℕ)) (sign : ℕ) (text : List ℕ) → first_of spellings sign ≡ Some text → IsAmong (sign, first_spelling spellings sign) spellings
+pub first_is_among : (spellings : List (ℕ × List ℕ)) (sign : ℕ) (text : List ℕ) → first_of spellings sign ≡ Some text → IsAmong (sign, first_spelling spellings sign) spellings
 first_is_among spellings sign text h = by_find (find (λ s. s.0 == sign) spellings) refl h
   where
     by_find : (o : Option (ℕ × List ℕ)) → o ≡ find (λ s. s.0 == sign) spellings → option_map (λ (s : ℕ × List ℕ). s.1) o ≡ Some text → IsAmong (sign, first_spelling spellings sign) spellings

@@ -43,5 +43,6 @@ generate_rule n = record usual_rule {
   reads = translate_file n.translate ∷ input_file input.Parameters n.params parameters
       ∷ patterns_file n.translate n.patterns ∷ words_file n.translate n.dict ∷ [];
   writes = output_names n;
-  own_outcome = λ f. known (generate_inputs n f) (λ i. Ends Done (selected_files n i) (selected_lines i));
+  own_outcome = λ f. known (generate_inputs n f)
+      (λ i. Ends Done (selected_files n i) (selected_lines i));
 }

@@ -1,7 +1,7 @@
 -- The dictionary of `sample`, as a text made from a number, and what the command prints.
-use Rattle.std.specs.Prelude.{ℕ, zero, suc, ◌+◌, ◌==◌, Bool, ◌||◌, nat_eq, if◌then◌else◌, List, [], ◌∷◌, ◌++◌, filter, flat_map, slice_index, codes}
+use Rattle.std.specs.Prelude.{ℕ, zero, suc, ◌+◌, ◌==◌, Bool, ◌||◌, nat_eq, if◌then◌else◌, List, [], ◌∷◌, ◌++◌, filter, flat_map, slice_index, codes, Option, Some}
 use Rattle.std.specs.List.{starts_with}
-use Rattle.std.specs.Result.{result_unwrap_or}
+use Rattle.std.specs.Result.{result_ok}
 use Rattle.pg_draws.specs.DrawnNumbers.{next_state, draw}
 use Rattle.pg_types.specs.Lines.{lines}
 use Rattle.pg_types.specs.Parameters.{Parameters, items, parameters_of}
@@ -9,7 +9,8 @@ use Rattle.pg_translate.specs.Tables.{default_alphabet}
 use Rattle.pg_dict.specs.DictionaryWords.{words}
 use Rattle.pg_top.specs.PrintedLines.{done_line}
 use Rattle.pg_top.specs.Selection.{selected_text, selected_report, selected_totals}
-use Rattle.pg_steps.specs.Outcomes.{Ends}
+use Rattle.pg_steps.specs.Outcomes.{Ends, known}
+use Rattle.pg_steps.specs.Readings.{under}
 use Rattle.pg_steps.specs.Rules.{CommandRule, usual_rule}
 use Rattle.pg_steps.specs.declared.answers.Status.TheVariants.{Done, Memory}
 use Rattle.pg_top.specs.declared.selection.Inputs.{Inputs}
@@ -57,23 +58,23 @@ abbrev pub sample_parameters : Parameters
 sample_parameters = parameters_of (items (codes "1 2  1 3 1 2 20  2 4 2 1 8"))
 
 -- the selection: the default table, no starting patterns, and the words of the dictionary
-unfoldable pub sample_inputs : ℕ → ℕ → Inputs
-sample_inputs seed count =
-    let made = result_unwrap_or (words default_alphabet (sample_text seed count)) [] in
-    record { table = default_alphabet; params = sample_parameters; start = []; dictionary = made }
+unfoldable pub sample_inputs : ℕ → ℕ → Option Inputs
+sample_inputs seed count = let t = default_alphabet in
+    under (result_ok (words t (sample_text seed count))) (λ ws.
+    Some (record { table = t; params = sample_parameters; start = []; dictionary = ws }))
 
 -- whether a line of the report is printed: that of a level, of the totals or of the rates
 abbrev pub is_printed : List ℕ → Bool
 is_printed line = starts_with nat_eq line (codes "level")
     || starts_with nat_eq line (codes "total") || starts_with nat_eq line (codes "rate")
 
--- what `sample` prints: those lines of the report, and the `done:` line
-abbrev pub sample_lines : ℕ → ℕ → List ℕ
-sample_lines seed count = let i = sample_inputs seed count in
-    flat_map (λ line. line ++ 10 ∷ []) (filter is_printed (lines (selected_report i)))
+-- what `sample` prints of its selection: those lines of the report, and the `done:` line
+abbrev pub sample_lines : Inputs → List ℕ
+sample_lines i = flat_map (λ line. line ++ 10 ∷ []) (filter is_printed (lines (selected_report i)))
     ++ done_line (selected_text i) (selected_totals i)
 
 -- the rule of `sample`, which reads no file
 abbrev pub sample_rule : ℕ → ℕ → CommandRule
-sample_rule seed count = let lines = sample_lines seed count in
-    record usual_rule { answers = Done ∷ Memory ∷ []; own_outcome = λ _. Ends Done [] lines }
+sample_rule seed count =
+    let end = known (sample_inputs seed count) (λ i. Ends Done [] (sample_lines i)) in
+    record usual_rule { answers = Done ∷ Memory ∷ []; own_outcome = λ _. end }

@@ -30,8 +30,7 @@ abbrev pub totals_rule : TotalsRequest → CommandRule
 totals_rule n = record usual_rule {
   reads = translate_file n.translate ∷ words_file n.translate n.dict
       ∷ file_under n.translate input.Table n.table packed_table ∷ [];
-  own_outcome = λ files. known (meaning table files n.translate) (λ t.
-      known (meaning (words t) files n.dict) (λ ws.
-      known (meaning (packed_table t) files n.table) (λ b.
+  own_outcome = λ f. known (meaning table f n.translate) (λ t.
+      known (meaning (words t) f n.dict) (λ ws. known (meaning (packed_table t) f n.table) (λ b.
       Ends Done [] (ending_text (table_totals (minima_of t) ws b)))));
 }

@@ -1,5 +1,5 @@
 -- Why a command stops before it writes, and what is put then.
-use Rattle.std.specs.Prelude.{◌≡◌, ℕ, ◌+◌, List, [], take, Some, IfSome, Result, Ok, Err, slice_get, ◌⊎◌}
+use Rattle.std.specs.Prelude.{◌≡◌, ℕ, ◌+◌, List, [], take, Option, Some, IfSome, Result, Ok, Err, slice_get, ◌⊎◌}
 use Rattle.std.specs.Option.{option_map}
 use Rattle.pg_types.specs.declared.refusals.ReadingError.{ReadingError}
 use Rattle.pg_types.specs.declared.refusals.ReadingError.TheVariants as reader
@@ -98,9 +98,9 @@ PutsAnswer line wanted answer old new =
     ((answer ≡ status.Fault) × PutRose old new × PutsPart old new line)
 
 -- the lines of a command that is done were put, or nothing was put since memory was short
-abbrev pub PutsLines : List ℕ → Status → SinkShown → SinkShown → Type 0
-PutsLines lines answer old new =
-    ((answer ≡ status.Memory) × Puts old new []) ⊎ PutsAnswer lines status.Done answer old new
+abbrev pub PutsLines : Option (List ℕ) → Status → SinkShown → SinkShown → Type 0
+PutsLines made answer old new = ((answer ≡ status.Memory) × Puts old new [])
+    ⊎ ((lines : List ℕ) × (made ≡ Some lines) × PutsAnswer lines status.Done answer old new)
 
 -- the answer of a command that stopped, and what was put
 abbrev pub PutsStop : Stop → Status → SinkShown → SinkShown → Type 0

@@ -1,6 +1,6 @@
-use Rattle.std.proofs.Common.{Some, refl, sym, ap, ◌∙◌}
+use Rattle.std.proofs.Common.{Some, refl, sym, ap, subst, ◌∙◌}
 use Rattle.pg_steps.specs.Inside.ends.BuiltTexts.{Builds}
-use Rattle.pg_words.specs.Inside.CommandRequests.{asked_by}
+use Rattle.pg_words.specs.Inside.CommandRequests.{asked_by, KeepsLimits}
 use Rattle.pg_top.specs.CommandRules.{rule_of}
 use Rattle.pg_top.proofs.Built.{IsBuilding, built_run, audit_run, sample_run}
 use Rattle.pg_top.proofs.top.perform.Goals as goal
@@ -30,4 +30,4 @@ returns-in-Audit g c =
 pub returns-in-Sample : goal.returns-in-Sample
 returns-in-Sample g c =
     rw c.in-Sample.is (sample_run _ _ c.args.files.now (g.F.Files.shown c.args.files.now) (g.O.Sink.shown c.args.out.now)
-    (g.O.Sink.shown c.sample.new.out) c.sample.result c.sample.ensures.put c.sample.ensures.counted)
+    (g.O.Sink.shown c.sample.new.out) c.sample.result (subst KeepsLimits c.in-Sample.is c.requires).1 c.sample.ensures.put c.sample.ensures.counted)
