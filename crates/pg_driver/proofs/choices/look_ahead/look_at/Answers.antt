@@ -37,3 +37,14 @@ returns-clause-size g c = (let size = c.numbers.invariant.size in let end = c.nu
 
 pub returns-clause-each : goal.returns-clause-each
 returns-clause-each g c = c.numbers.invariant.each
+
+pub bounds-fates-number : goal.bounds-fates-number
+bounds-fates-number g c =
+    let k = c.numbers.number-index in
+    let lt = c.requires.there k (get_or c.args.numbers.now k 0) (slice_get-get_or c.args.numbers.now k 0 c.numbers-test.true) in
+    omega (arith, lt, c.requires.fates)
+
+pub seek-requires : goal.seek-requires
+seek-requires g c =
+    let k = c.numbers.number-index in
+    c.requires.there k (get_or c.args.numbers.now k 0) (slice_get-get_or c.args.numbers.now k 0 c.numbers-test.true)
