@@ -1,6 +1,7 @@
-use Rattle.std.proofs.Common.{◌≡◌, ◌+◌, ◌-◌, ◌<◌, ◌≤◌, ℕ, List, Bool, Some, true, false, not, ◌&&◌, slice_get, drop, length, inl, inr, refl, ap, sym, ◌∙◌, arith, rules}
+use Rattle.std.proofs.Common.{◌≡◌, ◌+◌, ◌-◌, ◌<◌, ◌≤◌, ℕ, List, [], Bool, Some, true, false, not, ◌&&◌, slice_get, drop, length, inl, inr, refl, ap, sym, ◌∙◌, arith, rules}
 use Rattle.std.specs.List.{flat_map}
 use Rattle.std.proofs.lemmas.Bool.{cases_lt}
+use Rattle.std.proofs.lemmas.List.{drop_all}
 use Rattle.std.proofs.lemmas.Option.{slice_get_within}
 use Rattle.pg_dots.specs.Inside.Dots.{is_closed, position_count}
 use Rattle.pg_dots.specs.Inside.Positions.{is_among}
@@ -9,7 +10,7 @@ use Rattle.pg_select.specs.CountedPositions.{minima_of}
 use Rattle.pg_dict.specs.Word.{Word}
 use Rattle.pg_select.specs.Sums.{marks_in}
 use Rattle.pg_select.specs.Inside.SumSteps.{with_marks}
-use Rattle.pg_select.proofs.MarkSteps.{marks_word}
+use Rattle.pg_select.proofs.MarkSteps.{marks_none, marks_word}
 use Rattle.pg_driver.specs.Inside.counting.OpenSigns.{is_open_first, start_of, takes_part}
 use Rattle.pg_driver.proofs.OpenFirst.{cares_in, counts_in, opens_before, opens_behind}
 use Rattle.pg_driver.proofs.OpenSigns.{sign_within, signs_few, start_before, start_next, start_past, start_zero}
@@ -153,3 +154,25 @@ returns-clause-never g c = λ n p w at low. c.words.invariant.never_before n p w
 pub returns-clause-closed : goal.returns-clause-closed
 returns-clause-closed g c = λ d n p w at low. c.words.invariant.before d n p w (let within = slice_get_within c.args.dictionary.now n w at in
     omega (arith, c.words-test.false, c.len-count.ensures.len)) at low
+
+pub word-w-requires : goal.word-w-requires
+word-w-requires g c = omega (arith, c.words-test.true, c.len-count.ensures.len)
+
+pub open_word-requires-clause-word : goal.open_word-requires-clause-word
+open_word-requires-clause-word g c = c.word-w.ensures.word
+
+pub open_word-requires-clause-few : goal.open_word-requires-clause-few
+open_word-requires-clause-few g c = c.words.invariant.few
+
+pub open_word-requires-clause-none : goal.open_word-requires-clause-none
+open_word-requires-clause-none g c = c.words.invariant.none
+
+pub returns-clause-size : goal.returns-clause-size
+returns-clause-size g c = c.words.invariant.size
+
+pub returns-clause-totals : goal.returns-clause-totals
+returns-clause-totals g c =
+    let P = (g.E.Engine.meaning c.args.engine.now).patterns in
+    let t = c.words.opened.totals in
+    let none : drop c.words.i c.args.dictionary.now ≡ [] = drop_all c.words.i c.args.dictionary.now (omega (arith, c.words-test.false, c.len-count.ensures.len)) in
+    sym (marks_none t) ∙ ap (λ (ws : List Word). with_marks t (flat_map (marks_in (minima_of c.args.table.now) P) ws)) (sym none) ∙ c.words.invariant.sums
