@@ -1,16 +1,18 @@
-use Rattle.std.proofs.Common.{◌≡◌, ◌+◌, ◌-◌, ◌<◌, ◌≤◌, ℕ, List, [], Bool, Some, true, false, not, ◌&&◌, slice_get, drop, length, inl, inr, refl, ap, sym, ◌∙◌, arith, rules}
+use Rattle.std.proofs.Common.{◌≡◌, ◌+◌, ◌-◌, ◌<◌, ◌≤◌, ℕ, List, [], Bool, Some, true, false, not, ◌&&◌, slice_get, drop, length, inl, inr, refl, ap, sym, ◌∙◌, arith}
 use Rattle.std.specs.List.{flat_map}
 use Rattle.std.proofs.lemmas.Bool.{cases_lt}
 use Rattle.std.proofs.lemmas.List.{drop_all}
 use Rattle.std.proofs.lemmas.Option.{slice_get_within}
+use Rattle.pg_types.specs.declared.marks.Mark.{Mark}
+use Rattle.pg_types.specs.declared.marks.Totals.{Totals}
 use Rattle.pg_dots.specs.Inside.Dots.{is_closed, position_count}
 use Rattle.pg_dots.specs.Inside.Positions.{is_among}
 use Rattle.pg_dict.specs.Inside.LentWords.{lent_word}
 use Rattle.pg_select.specs.CountedPositions.{minima_of}
 use Rattle.pg_dict.specs.Word.{Word}
 use Rattle.pg_select.specs.Sums.{marks_in}
-use Rattle.pg_select.specs.Inside.SumSteps.{with_marks}
-use Rattle.pg_select.proofs.MarkSteps.{marks_none, marks_word}
+use Rattle.pg_select.specs.Inside.SumSteps.{with_marks, sum_of}
+use Rattle.pg_select.proofs.MarkSteps.{marks_none, marks_word, marks_zero}
 use Rattle.pg_driver.specs.Inside.counting.OpenSigns.{is_open_first, start_of, takes_part}
 use Rattle.pg_driver.proofs.OpenFirst.{cares_in, counts_in, opens_before, opens_behind}
 use Rattle.pg_driver.proofs.OpenSigns.{sign_within, signs_few, start_before, start_next, start_past, start_zero}
@@ -106,6 +108,7 @@ pub words-init : goal.words-init
 words-init g c =
     let all = ap (λ (xs : List ℕ). length xs) c.all_signs-signs.ensures in
     let few = signs_few c.args.dictionary.now c.len-count.ensures.words in
+    let marks : List (Mark × ℕ) = flat_map (marks_in (minima_of c.args.table.now) (g.E.Engine.meaning c.args.engine.now).patterns) c.args.dictionary.now in
     record {
       size = omega (arith, c.in_ok-dots.ensures.size);
       few = omega (arith, c.in_ok-dots.ensures.few, c.len-count.ensures.letters);
@@ -116,9 +119,9 @@ words-init g c =
       room = c.in_ok-never.ensures.room;
       never_before = λ n p w low at inside. absurd (omega arith);
       never_later = λ s from low. c.in_ok-never.ensures.among s low;
-      sums = search rules;
+      sums = ap (λ (t : Totals). with_marks t marks) c.no_totals.ensures ∙ marks_zero marks;
       reached = omega arith;
-      room_for = search rules;
+      room_for = omega (arith, ap sum_of c.no_totals.ensures, c.len-count.ensures.letters);
     }
 
 pub open_word-requires-clause-within : goal.open_word-requires-clause-within
