@@ -1,8 +1,7 @@
-use Rattle.std.proofs.Common.{◌≡◌, ℕ, ◌+◌, ◌<◌, List, [], ◌∷◌, ◌++◌, length, slice_get, get_or, None, Some, refl, sym, ap, subst, ◌∙◌, arith}
+use Rattle.std.proofs.Common.{◌≡◌, ◌<◌, List, [], ◌∷◌, ◌++◌, length, slice_get, get_or, None, Some, sym, ap, subst, ◌∙◌, arith}
 use Rattle.std.proofs.lemmas.List.{length-append}
 use Rattle.std.proofs.lemmas.Option.{slice_get-get_or}
 use Rattle.pg_driver.specs.declared.choices.look_ahead.SeenCandidate.{SeenCandidate}
-use Rattle.pg_driver.specs.Inside.choices.LookAhead.{IsReadAhead}
 use Rattle.pg_driver.proofs.SeenCandidates.{EachSeen, seen_more}
 use Rattle.pg_driver.proofs.choices.look_ahead.look_at.Goals as goal
 
