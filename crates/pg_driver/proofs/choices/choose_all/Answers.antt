@@ -1,6 +1,6 @@
-use Rattle.std.proofs.Common.{◌≡◌, ℕ, ◌+◌, ◌<◌, List, [], ◌∷◌, length, map, drop, get_or, slice_get, Some, refl, sym, ap, subst, ◌∙◌, arith}
+use Rattle.std.proofs.Common.{◌≡◌, ℕ, ◌+◌, ◌<◌, ◌≤◌, List, [], ◌∷◌, length, map, drop, get_or, slice_get, Some, refl, sym, ap, subst, ◌∙◌, arith}
 use Rattle.std.specs.List.{sum_by}
-use Rattle.std.proofs.lemmas.List.{length-map, drop_more}
+use Rattle.std.proofs.lemmas.List.{length-map, drop_all, drop_more}
 use Rattle.std.proofs.lemmas.List.Sums.{sum_by-cons}
 use Rattle.std.proofs.lemmas.Option.{slice_get_within}
 use Rattle.pg_types.specs.Inside.counting.Counts.{Counts, counted_sums, is_counted}
@@ -13,7 +13,7 @@ use Rattle.pg_driver.specs.Inside.choices.Choosing.{HasChosen, with_candidates, 
 use Rattle.pg_driver.specs.Inside.choices.LookAhead.{AreSeen, AreThere}
 use Rattle.pg_driver.specs.Inside.level.PassWindows.{IsCandidate}
 use Rattle.pg_driver.specs.Inside.level.States.{state_of}
-use Rattle.pg_driver.proofs.ChoiceSteps.{bad_adds, bad_within, good_adds, good_within, keeps_on, numbers_append, state_step, state_with}
+use Rattle.pg_driver.proofs.ChoiceSteps.{bad_adds, bad_within, good_adds, good_within, keeps_on, numbers_append, state_none, state_step, state_with}
 use Rattle.pg_driver.proofs.NumberSteps.{Ahead, ahead, only_one, order_there, part_whole}
 use Rattle.pg_driver.proofs.SeenCandidates.{none_seen, seen_at}
 use Rattle.pg_driver.proofs.choices.choose_all.Goals as goal
@@ -184,3 +184,79 @@ candidates-preserved g c =
         inv.bad,
       );
     }
+
+pub look_ahead-requires-clause-fates : goal.look_ahead-requires-clause-fates
+look_ahead-requires-clause-fates g c = c.requires.fates.size ∙ sym (ap (λ (x : Meaning). length x.windows) c.candidates.invariant.kept)
+
+pub look_ahead-requires-clause-within : goal.look_ahead-requires-clause-within
+look_ahead-requires-clause-within g c = c.candidates-test.true
+
+pub look_ahead-requires-clause-from : goal.look_ahead-requires-clause-from
+look_ahead-requires-clause-from g c = c.candidates.invariant.from
+
+pub look_ahead-requires-clause-seen : goal.look_ahead-requires-clause-seen
+look_ahead-requires-clause-seen g c =
+    subst (λ (ws : List (List ℕ)). AreSeen c.args.fates.now ws c.args.order.now c.candidates.from c.candidates.seen.items)
+    (sym (ap (λ (x : Meaning). x.windows) c.candidates.invariant.kept)) c.candidates.invariant.seen
+
+pub index-requires : goal.index-requires
+index-requires g c = (let low = c.in_ok-from.ensures.from in let high = c.in_ok-from.ensures.within in omega arith)
+
+pub overflow_sub-k : goal.overflow_sub-k
+overflow_sub-k g c = c.in_ok-from.ensures.from
+
+pub choose_one-requires-clause-level : goal.choose_one-requires-clause-level
+choose_one-requires-clause-level g c = c.requires.level
+
+pub choose_one-requires-clause-sound : goal.choose_one-requires-clause-sound
+choose_one-requires-clause-sound g c = c.candidates.invariant.sound
+
+pub returns-in_err-from-clause-signs : goal.returns-in_err-from-clause-signs
+returns-in_err-from-clause-signs g c = ap (λ (x : Meaning). x.signs) c.candidates.invariant.kept
+
+pub returns-in_err-choose_one-clause-signs : goal.returns-in_err-choose_one-clause-signs
+returns-in_err-choose_one-clause-signs g c = c.choose_one.ensures.signs ∙ ap (λ (x : Meaning). x.signs) c.candidates.invariant.kept
+
+-- behind the last number no candidate is left
+none_left : (ws : List (List ℕ)) (order : List ℕ) (k : ℕ) (rest : Counts) → length order ≤ k → map (slice_get ws) (drop k order) ≡ map (λ e. Some e.0) rest → rest ≡ []
+none_left ws order k [] past is = refl
+none_left ws order k (e ∷ es) past is = absurd (let no : [] ≡ Some e.0 ∷ map (λ e. Some e.0) es = sym (ap (map (slice_get ws)) (drop_all k order past)) ∙ is in cc)
+
+pub returns-clause-ok : goal.returns-clause-ok
+returns-clause-ok g c =
+    let m0 = g.E.Engine.meaning c.args.engine.now in
+    let m = g.E.Engine.meaning c.candidates.engine in
+    let params = c.args.params.now in
+    let inv = c.candidates.invariant in
+    let none : inv.rest ≡ [] = none_left m0.windows c.args.order.now c.candidates.k inv.rest c.candidates-test.false inv.ahead in
+    record {
+      state =
+          sym (state_none m0.signs params m0.pass (state_of m))
+          ∙ ap (λ (es : Counts). state_with m0.signs params m0.pass (state_of m) (map candidate_of es)) (sym none)
+          ∙ inv.state;
+      kept = inv.kept;
+    }
+
+-- no candidate more changes no number
+numbers_none : (n : Choices) → n ≡ record { candidates = n.candidates + 0; chosen = n.chosen + 0; hopeless = n.hopeless + 0; good = n.good + 0; bad = n.bad + 0 }
+numbers_none n =
+    let zero : (x : ℕ) → x ≡ x + 0 = λ x. omega arith in
+    λ i. record { candidates = zero n.candidates i; chosen = zero n.chosen i; hopeless = zero n.hopeless i; good = zero n.good i; bad = zero n.bad i }
+
+pub returns-clause-choices : goal.returns-clause-choices
+returns-clause-choices g c =
+    let params = c.args.params.now in
+    let inv = c.candidates.invariant in
+    let none : inv.rest ≡ [] = none_left (g.E.Engine.meaning c.args.engine.now).windows c.args.order.now c.candidates.k inv.rest c.candidates-test.false inv.ahead in
+    numbers_none c.candidates.choices
+    ∙ ap (λ (es : Counts). with_candidates params c.candidates.choices (map candidate_of es)) (sym none)
+    ∙ inv.choices
+
+pub returns-clause-sound : goal.returns-clause-sound
+returns-clause-sound g c = c.candidates.invariant.sound
+
+pub returns-clause-few : goal.returns-clause-few
+returns-clause-few g c = omega (arith, c.candidates.invariant.few)
+
+pub returns-clause-signs : goal.returns-clause-signs
+returns-clause-signs g c = ap (λ (x : Meaning). x.signs) c.candidates.invariant.kept

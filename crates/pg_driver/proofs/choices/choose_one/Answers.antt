@@ -1,9 +1,10 @@
-use Rattle.std.proofs.Common.{◌≡◌, ℕ, ◌+◌, List, Some, sym, ap, subst, ◌∙◌, arith}
+use Rattle.std.proofs.Common.{◌≡◌, ℕ, ◌+◌, List, Some, refl, sym, ap, subst, ◌∙◌, arith}
 use Rattle.pg_types.specs.Inside.counting.NumberedWindows.{HasNumber}
 use Rattle.pg_select.specs.Inside.engine.Meanings.{Meaning, KeepsButFamilies, after_choose, after_give_up}
 use Rattle.pg_driver.specs.Inside.level.PassWindows.{IsCandidate}
 use Rattle.pg_driver.proofs.NumberSteps.{one_window}
 use Rattle.pg_driver.proofs.ChoiceSteps.{left_one, left_numbers, chosen_one, chosen_numbers, hopeless_one, hopeless_numbers}
+use Rattle.std.proofs.lemmas.Option.{slice_get_within}
 use Rattle.pg_driver.proofs.choices.choose_one.Goals as goal
 
 pub overflow_add-choices-in-Chosen-2 : goal.overflow_add-choices-in-Chosen-2
@@ -92,3 +93,33 @@ returns-in-Left-clause-ok g c = λ u sums it.
 pub returns-in-Left-clause-choices : goal.returns-in-Left-clause-choices
 returns-in-Left-clause-choices g c = λ u sums it.
     left_numbers c.args.params.now c.args.choices.now (record { window = u; good = sums.0; bad = sums.1 }) (sym (c.requires.fate u sums it) ∙ c.in-Left.is)
+
+pub sums_of-good-requires : goal.sums_of-good-requires
+sums_of-good-requires g c = slice_get_within (g.E.Engine.meaning c.args.engine.now).windows c.args.number c.args.seen.now.window c.requires.window
+
+pub choose-requires : goal.choose-requires
+choose-requires g c = c.requires.counted
+
+pub give_up-requires : goal.give_up-requires
+give_up-requires g c = c.requires.counted
+
+pub overflow_add-choices : goal.overflow_add-choices
+overflow_add-choices g c = omega (arith, c.requires.few)
+
+pub overflow_add-choices-in-Chosen : goal.overflow_add-choices-in-Chosen
+overflow_add-choices-in-Chosen g c = omega (arith, c.requires.few, c.requires.sound)
+
+pub overflow_add-choices-in-Hopeless : goal.overflow_add-choices-in-Hopeless
+overflow_add-choices-in-Hopeless g c = omega (arith, c.requires.few, c.requires.sound)
+
+pub returns-in_ok-choose-in-Chosen-clause-sound : goal.returns-in_ok-choose-in-Chosen-clause-sound
+returns-in_ok-choose-in-Chosen-clause-sound g c = omega (arith, c.requires.sound)
+
+pub returns-in_ok-give_up-in-Hopeless-clause-sound : goal.returns-in_ok-give_up-in-Hopeless-clause-sound
+returns-in_ok-give_up-in-Hopeless-clause-sound g c = omega (arith, c.requires.sound)
+
+pub returns-in-Left-clause-sound : goal.returns-in-Left-clause-sound
+returns-in-Left-clause-sound g c = omega (arith, c.requires.sound)
+
+pub returns-in-Left-clause-signs : goal.returns-in-Left-clause-signs
+returns-in-Left-clause-signs g c = refl

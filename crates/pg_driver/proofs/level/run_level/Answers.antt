@@ -81,3 +81,18 @@ returns-in_err-begin_level-clause-signs g c = refl
 
 pub returns-in_err-run_lengths-clause-signs : goal.returns-in_err-run_lengths-clause-signs
 returns-in_err-run_lengths-clause-signs g c = c.run_lengths.ensures.signs
+
+pub begin_level-requires-clause-signs : goal.begin_level-requires-clause-signs
+begin_level-requires-clause-signs g c = c.requires.signs
+
+pub begin_level-requires-clause-hopeless : goal.begin_level-requires-clause-hopeless
+begin_level-requires-clause-hopeless g c = c.requires.hopeless
+
+pub begin_level-requires-clause-below : goal.begin_level-requires-clause-below
+begin_level-requires-clause-below g c = c.requires.below
+
+pub end_level-requires-2 : goal.end_level-requires-2
+end_level-requires-2 g c = subst IsSmall (sym c.totals-after.ensures) c.in_ok-run_lengths.ensures.ready.1
+
+pub returns-in_err-end_level-clause-signs : goal.returns-in_err-end_level-clause-signs
+returns-in_err-end_level-clause-signs g c = ap (λ (x : Meaning). x.signs) c.in_err-end_level.ensures.err ∙ c.run_lengths.ensures.signs

@@ -148,3 +148,12 @@ returns-in_err-decide-clause-signs g c = c.count.ensures.signs ∙ ap (λ (x : M
 
 pub returns-in_err-choices-clause-signs : goal.returns-in_err-choices-clause-signs
 returns-in_err-choices-clause-signs g c = c.choose_all.ensures.signs ∙ c.count.ensures.signs ∙ ap (λ (x : Meaning). x.signs) c.begin_pass.ensures
+
+pub count-requires-clause-ready : goal.count-requires-clause-ready
+count-requires-clause-ready g c =
+    subst (λ (k : Knowledge). IsReady (source_of c.args.table.now c.args.dictionary.now) c.args.pass.level c.args.pass.len k c.args.counting.now)
+    (sym (ap known_of c.begin_pass.ensures)) c.requires.ready
+
+pub after_choices-requires-clause-fates : goal.after_choices-requires-clause-fates
+after_choices-requires-clause-fates g c =
+    subst (λ (m : Meaning). AreFates c.args.params.now m.counts m.windows c.decide.new.self.fates.items) (sym c.in_ok-choices.ensures.ok.kept) c.in_ok-decide.ensures.fates

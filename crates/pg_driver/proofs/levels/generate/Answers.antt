@@ -78,3 +78,6 @@ run_levels-requires-clause-begun g c = c.requires.begun
 
 pub run_levels-requires-clause-signs : goal.run_levels-requires-clause-signs
 run_levels-requires-clause-signs g c = c.requires.signs
+
+pub run_levels-requires-clause-none : goal.run_levels-requires-clause-none
+run_levels-requires-clause-none g c = c.new-records.ensures

@@ -141,3 +141,29 @@ returns-in_err-copy_patterns-clause-signs g c = refl
 
 pub returns-in_err-after-clause-signs : goal.returns-in_err-after-clause-signs
 returns-in_err-after-clause-signs g c = c.run_level.ensures.signs ∙ c.levels.invariant.signs
+
+pub returns-clause-run : goal.returns-clause-run
+returns-clause-run g c =
+    let m0 = g.E.Engine.meaning c.args.engine.now in
+    let m = g.E.Engine.meaning c.levels.engine in
+    let rest = enumerate_from (c.start-first.result + c.levels.i) (drop c.levels.i c.args.params.now.levels) in
+    run_whole (source_of c.args.table.now c.args.dictionary.now) m0 m c.levels.records rest (run_from c.args.table.now c.args.dictionary.now c.args.params.now m0)
+    (no_levels c.start-first.result c.levels.i c.args.params.now.levels (omega (arith, c.count-count.ensures.value))) c.levels.invariant.reaches
+
+pub returns-clause-totals : goal.returns-clause-totals
+returns-clause-totals g c = c.totals.ensures.value
+
+pub returns-clause-small : goal.returns-clause-small
+returns-clause-small g c = c.totals.ensures.small
+
+pub returns-clause-tidy : goal.returns-clause-tidy
+returns-clause-tidy g c = c.levels.invariant.tidy
+
+pub returns-clause-begun : goal.returns-clause-begun
+returns-clause-begun g c = c.levels.invariant.begun
+
+pub returns-clause-few : goal.returns-clause-few
+returns-clause-few g c = omega (arith, c.levels.invariant.passes, c.count-count.ensures.few, c.start-first.ensures.low)
+
+pub returns-clause-signs : goal.returns-clause-signs
+returns-clause-signs g c = c.levels.invariant.signs

@@ -68,3 +68,13 @@ returns g c m ws lie start =
     let is = finish m ws P K c.in_ok-needs.needs.items c.in_ok-finished.finished.count rounded own c.in_ok-patterns.patterns
     (c.len-count.result - length K) c.in_ok-patterns.ensures (ap (λ n. n - length K) c.len-count.ensures.value) in
     c.new.ensures ∙ is
+
+pub needs-requires : goal.needs-requires
+needs-requires g c =
+    let m = c.requires.0 in
+    let ws = c.requires.1.0 in
+    let P = c.args.patterns.now in
+    let xs = positions_in_reach m ws in
+    let done = c.in_ok-finished.ensures xs c.requires.1.1.1 in
+    let stands = map (λ l. l.items) c.args.standing.now in
+    (xs, c.requires.1.1.0, with_kept xs P stands c.all_rounds.new.holders c.in_ok-finished.finished.kept.items c.as_slice-kept.result.now c.as_slice-kept.ensures.value done.ready)

@@ -1,8 +1,7 @@
-use Rattle.std.proofs.Common.{◌≡◌, ℕ, ◌+◌, ◌<◌, List, [], ◌∷◌, ◌++◌, length, slice_get, get_or, None, Some, refl, sym, ap, subst, ◌∙◌, arith}
+use Rattle.std.proofs.Common.{◌≡◌, ◌<◌, List, [], ◌∷◌, ◌++◌, length, slice_get, get_or, None, Some, sym, ap, subst, ◌∙◌, arith}
 use Rattle.std.proofs.lemmas.List.{length-append}
 use Rattle.std.proofs.lemmas.Option.{slice_get-get_or}
 use Rattle.pg_driver.specs.declared.choices.look_ahead.SeenCandidate.{SeenCandidate}
-use Rattle.pg_driver.specs.Inside.choices.LookAhead.{IsReadAhead}
 use Rattle.pg_driver.proofs.SeenCandidates.{EachSeen, seen_more}
 use Rattle.pg_driver.proofs.choices.look_ahead.look_at.Goals as goal
 
@@ -37,3 +36,14 @@ returns-clause-size g c = (let size = c.numbers.invariant.size in let end = c.nu
 
 pub returns-clause-each : goal.returns-clause-each
 returns-clause-each g c = c.numbers.invariant.each
+
+pub bounds-fates-number : goal.bounds-fates-number
+bounds-fates-number g c =
+    let k = c.numbers.number-index in
+    let lt = c.requires.there k (get_or c.args.numbers.now k 0) (slice_get-get_or c.args.numbers.now k 0 c.numbers-test.true) in
+    omega (arith, lt, c.requires.fates)
+
+pub seek-requires : goal.seek-requires
+seek-requires g c =
+    let k = c.numbers.number-index in
+    c.requires.there k (get_or c.args.numbers.now k 0) (slice_get-get_or c.args.numbers.now k 0 c.numbers-test.true)

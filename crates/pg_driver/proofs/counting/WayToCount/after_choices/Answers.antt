@@ -1,11 +1,19 @@
-use Rattle.std.proofs.Common.{◌≡◌, ◌<◌, ℕ, List, Bool, length, refl, sym, ap, subst}
+use Rattle.std.proofs.Common.{◌≡◌, ◌<◌, ◌≤◌, ℕ, List, Bool, All, length, refl, sym, ap, subst, ◌∙◌}
 use Rattle.pg_dots.specs.Inside.Dots.{is_closed}
 use Rattle.pg_select.specs.declared.choice.Choice.{Choice}
 use Rattle.pg_driver.specs.declared.counting.WayToCount.{WayToCount}
-use Rattle.pg_driver.specs.declared.counting.WayToCount.TheVariants.{Open}
+use Rattle.pg_driver.specs.declared.counting.WayToCount.TheVariants.{Open, EachWord}
 use Rattle.pg_driver.specs.declared.counting.open_positions.OpenLevel.{OpenLevel}
-use Rattle.pg_driver.specs.Inside.counting.LevelCounting.{AreNumberedIn, AreNumberedOpen, GoesOnAfter}
+use Rattle.pg_driver.specs.Inside.counting.LevelCounting.{AreInWords, AreNumberedIn, AreNumberedOpen, CanCarry, CanGoOn, CanMove, GoesOnAfter, IsAfterWords}
 use Rattle.pg_driver.specs.Inside.counting.OpenSigns.{ClosesBy, closed_at_sign, open_signs, sign_count}
+use Rattle.pg_driver.specs.declared.pass_windows.TheConstants.{NO_NUMBER}
+use Rattle.pg_driver.specs.declared.pass_windows.WordPosition.{WordPosition}
+use Rattle.pg_driver.specs.declared.counting.above_positions.ChosenWeights.{ChosenWeights}
+use Rattle.pg_driver.specs.Inside.counting.OpenPositions.{IsInWord}
+use Rattle.pg_driver.specs.Inside.counting.WordLevels.{chosen_weights}
+use Rattle.pg_driver.specs.Inside.level.PassWindows.{AreFates, HaveNumbers, is_counted_at}
+use Rattle.pg_select.specs.Statuses.{is_odd}
+use Rattle.pg_types.specs.declared.limits.TheConstants.{FILE_MAX}
 use Rattle.pg_driver.proofs.OpenCloses.{closes_signs}
 use Rattle.pg_driver.proofs.counting.WayToCount.after_choices.Goals as goal
 
@@ -35,3 +43,72 @@ returns-in-Open g c =
       never = refl;
       totals = c.totals_after-open.ensures;
     })
+
+pub returns-in-EachWord : goal.returns-in-EachWord
+returns-in-EachWord g c =
+    let m = g.E.Engine.meaning c.args.engine.now in
+    let params = c.args.params.now in
+    let words = c.args.dictionary.now in
+    let pass = c.args.pass in
+    let e = c.in-EachWord.words in
+    let ns : List ℕ = c.args.windows.now.numbers.items in
+    let have : HaveNumbers pass (is_counted_at pass m.counts) words m.windows e.above.items ns =
+    subst (λ (s : WayToCount). AreNumberedIn pass m.counts words m.windows s ns) c.in-EachWord.is c.requires.numbers in
+    let fates : AreFates params m.counts m.windows c.deref-in-EachWord.result.now =
+    subst (λ (xs : List Choice). AreFates params m.counts m.windows xs) (sym c.deref-in-EachWord.ensures.value) c.requires.fates in
+    let there : HaveNumbers pass (is_counted_at pass m.counts) words m.windows c.deref-in-EachWord-3.result.now c.deref-in-EachWord-2.result.now =
+    subst (λ (es : List WordPosition). HaveNumbers pass (is_counted_at pass m.counts) words m.windows es c.deref-in-EachWord-2.result.now) (sym c.deref-in-EachWord-3.ensures.value)
+    (subst (λ (xs : List ℕ). HaveNumbers pass (is_counted_at pass m.counts) words m.windows e.above.items xs) (sym c.deref-in-EachWord-2.ensures.value) have) in
+    let kept : c.kept_above-kept.result ≡ chosen_weights params pass m.counts words e.above.items =
+    c.kept_above-kept.ensures params m.counts m.windows c.requires.numbered fates there
+    ∙ ap (λ (es : List WordPosition). chosen_weights params pass m.counts words es) c.deref-in-EachWord-3.ensures.value in
+    subst (λ (s : WayToCount). GoesOnAfter params pass m.counts words c.args.choices s (EachWord c.after_choices.new.self)) (sym c.in-EachWord.is)
+    (subst (λ (k : ChosenWeights). IsAfterWords (is_odd pass.level) c.args.choices k e c.after_choices.new.self) kept c.after_choices.ensures)
+
+pub after_choices-requires : goal.after_choices-requires
+after_choices-requires g c =
+    let m = g.E.Engine.meaning c.args.engine.now in
+    let params = c.args.params.now in
+    let words = c.args.dictionary.now in
+    let pass = c.args.pass in
+    let e = c.in-EachWord.words in
+    let ns : List ℕ = c.args.windows.now.numbers.items in
+    let have : HaveNumbers pass (is_counted_at pass m.counts) words m.windows e.above.items ns =
+    subst (λ (s : WayToCount). AreNumberedIn pass m.counts words m.windows s ns) c.in-EachWord.is c.requires.numbers in
+    let fates : AreFates params m.counts m.windows c.deref-in-EachWord.result.now =
+    subst (λ (xs : List Choice). AreFates params m.counts m.windows xs) (sym c.deref-in-EachWord.ensures.value) c.requires.fates in
+    let there : HaveNumbers pass (is_counted_at pass m.counts) words m.windows c.deref-in-EachWord-3.result.now c.deref-in-EachWord-2.result.now =
+    subst (λ (es : List WordPosition). HaveNumbers pass (is_counted_at pass m.counts) words m.windows es c.deref-in-EachWord-2.result.now) (sym c.deref-in-EachWord-3.ensures.value)
+    (subst (λ (xs : List ℕ). HaveNumbers pass (is_counted_at pass m.counts) words m.windows e.above.items xs) (sym c.deref-in-EachWord-2.ensures.value) have) in
+    let kept : c.kept_above-kept.result ≡ chosen_weights params pass m.counts words e.above.items =
+    c.kept_above-kept.ensures params m.counts m.windows c.requires.numbered fates there
+    ∙ ap (λ (es : List WordPosition). chosen_weights params pass m.counts words es) c.deref-in-EachWord-3.ensures.value in
+    subst (λ (k : ChosenWeights). CanMove (is_odd pass.level) e.totals c.args.choices k) (sym kept)
+    (subst (λ (s : WayToCount). CanGoOn params pass m.counts words c.args.choices s) c.in-EachWord.is c.requires.totals)
+
+pub kept_above-kept-requires-clause-size : goal.kept_above-kept-requires-clause-size
+kept_above-kept-requires-clause-size g c =
+    let m = g.E.Engine.meaning c.args.engine.now in
+    let ns : List ℕ = c.args.windows.now.numbers.items in
+    let have : HaveNumbers c.args.pass (is_counted_at c.args.pass m.counts) c.args.dictionary.now m.windows c.in-EachWord.words.above.items ns =
+    subst (λ (s : WayToCount). AreNumberedIn c.args.pass m.counts c.args.dictionary.now m.windows s ns) c.in-EachWord.is c.requires.numbers in
+    ap (λ (xs : List ℕ). length xs) c.deref-in-EachWord-2.ensures.value ∙ have.size ∙ sym (ap (λ (es : List WordPosition). length es) c.deref-in-EachWord-3.ensures.value)
+
+pub kept_above-kept-requires-clause-above : goal.kept_above-kept-requires-clause-above
+kept_above-kept-requires-clause-above g c =
+    subst (λ (es : List WordPosition). length es ≤ FILE_MAX) (sym c.deref-in-EachWord-3.ensures.value)
+    (subst (AreInWords c.args.dictionary.now) c.in-EachWord.is c.requires.placed).1
+
+pub kept_above-kept-requires-clause-placed : goal.kept_above-kept-requires-clause-placed
+kept_above-kept-requires-clause-placed g c =
+    subst (λ (es : List WordPosition). All (IsInWord c.args.dictionary.now) es) (sym c.deref-in-EachWord-3.ensures.value)
+    (subst (AreInWords c.args.dictionary.now) c.in-EachWord.is c.requires.placed).0
+
+pub kept_above-kept-requires-clause-fates : goal.kept_above-kept-requires-clause-fates
+kept_above-kept-requires-clause-fates g c = subst (λ (xs : List Choice). length xs ≤ NO_NUMBER) (sym c.deref-in-EachWord.ensures.value) c.requires.few
+
+pub totals_after-open-requires : goal.totals_after-open-requires
+totals_after-open-requires g c =
+    let can : CanCarry (is_odd c.args.pass.level) c.in-Open.open.totals c.args.choices.good c.args.choices.bad =
+    subst (CanGoOn c.args.params.now c.args.pass (g.E.Engine.meaning c.args.engine.now).counts c.args.dictionary.now c.args.choices) c.in-Open.is c.requires.totals in
+    record { small = can.small; sums = can.sums; within = can.within }

@@ -1,10 +1,11 @@
-use Rattle.std.proofs.Common.{refl, subst, ap, ◌∙◌}
+use Rattle.std.proofs.Common.{◌≤◌, ℕ, refl, subst, sym, ap, ◌∙◌}
 use Rattle.pg_driver.specs.declared.counting.open_positions.OpenLevel.{OpenLevel}
 use Rattle.pg_driver.specs.Inside.counting.Counting.{meaning_after_counting}
 use Rattle.pg_driver.specs.Inside.counting.LevelCounting.{IsOpenAt, IsReady}
 use Rattle.pg_driver.specs.Inside.records.RunAccounts.{known_of}
 use Rattle.pg_driver.specs.Traces.{source_of}
 use Rattle.pg_driver.proofs.ReadySteps.{counts_all, has_room, is_small, ready_same}
+use Rattle.pg_driver.specs.Inside.counting.OpenSigns.{sign_count}
 use Rattle.pg_driver.proofs.counting.WayToCount.count.Goals as goal
 
 pub count_open-requires-clause-ranges : goal.count_open-requires-clause-ranges
@@ -79,3 +80,40 @@ returns-in-EachWord-clause-numbers g c = c.count_each_word.ensures.numbers
 
 pub returns-in-EachWord-clause-signs : goal.returns-in-EachWord-clause-signs
 returns-in-EachWord-clause-signs g c = c.count_each_word.ensures.signs
+
+pub count_open-requires-clause-words : goal.count_open-requires-clause-words
+count_open-requires-clause-words g c =
+    let source = source_of c.args.table.now c.args.dictionary.now in
+    let ready : IsOpenAt source c.args.pass.level c.args.pass.len (known_of (g.E.Engine.meaning c.args.engine.now)) c.in-Open.open =
+    subst (IsReady source c.args.pass.level c.args.pass.len (known_of (g.E.Engine.meaning c.args.engine.now))) c.in-Open.is c.requires.ready in
+    ready.bounded.few.each
+
+pub count_open-requires-clause-letters : goal.count_open-requires-clause-letters
+count_open-requires-clause-letters g c =
+    let source = source_of c.args.table.now c.args.dictionary.now in
+    let ready : IsOpenAt source c.args.pass.level c.args.pass.len (known_of (g.E.Engine.meaning c.args.engine.now)) c.in-Open.open =
+    subst (IsReady source c.args.pass.level c.args.pass.len (known_of (g.E.Engine.meaning c.args.engine.now))) c.in-Open.is c.requires.ready in
+    ready.bounded.few.letters
+
+pub count_open-requires-clause-size : goal.count_open-requires-clause-size
+count_open-requires-clause-size g c =
+    let source = source_of c.args.table.now c.args.dictionary.now in
+    let ready : IsOpenAt source c.args.pass.level c.args.pass.len (known_of (g.E.Engine.meaning c.args.engine.now)) c.in-Open.open =
+    subst (IsReady source c.args.pass.level c.args.pass.len (known_of (g.E.Engine.meaning c.args.engine.now))) c.in-Open.is c.requires.ready in
+    subst (λ (n : ℕ). sign_count c.args.dictionary.now ≤ n) (sym c.in_ok-reach-in-Open.ensures.positions) ready.size
+
+pub count_open-requires-clause-reached : goal.count_open-requires-clause-reached
+count_open-requires-clause-reached g c = c.in_ok-reach-in-Open.ensures.reached
+
+pub count_open-requires-clause-none : goal.count_open-requires-clause-none
+count_open-requires-clause-none g c = c.forget_numbers.ensures
+
+pub count_each_word-requires-clause-begun : goal.count_each_word-requires-clause-begun
+count_each_word-requires-clause-begun g c = c.requires.begun
+
+pub count_each_word-requires-clause-none : goal.count_each_word-requires-clause-none
+count_each_word-requires-clause-none g c = c.forget_numbers.ensures
+
+pub count_each_word-requires-clause-ready : goal.count_each_word-requires-clause-ready
+count_each_word-requires-clause-ready g c =
+    subst (IsReady (source_of c.args.table.now c.args.dictionary.now) c.args.pass.level c.args.pass.len (known_of (g.E.Engine.meaning c.args.engine.now))) c.in-EachWord.is c.requires.ready

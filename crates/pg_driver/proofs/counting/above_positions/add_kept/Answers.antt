@@ -2,6 +2,7 @@ use Rattle.std.proofs.Common.{◌≡◌, ◌<◌, ◌+◌, length, refl, ap, sym
 use Rattle.pg_dict.specs.Inside.LentWords.{lent_word}
 use Rattle.pg_select.specs.Inside.laws.ClosedDots.{is_good}
 use Rattle.pg_select.specs.Statuses.{position_weight}
+use Rattle.pg_select.proofs.MarkSteps.{weight_small}
 use Rattle.pg_driver.proofs.AboveNumbers.{chosen_by_number, kept_more}
 use Rattle.pg_driver.proofs.counting.above_positions.add_kept.Goals as goal
 
@@ -49,3 +50,31 @@ returns-else-is_good-clause-value c = λ params counts ws are decided is.
 
 pub returns-then-not-is_chosen_by-clause-took : goal.returns-then-not-is_chosen_by-clause-took
 returns-then-not-is_chosen_by-clause-took c = omega arith
+
+pub overflow_add-result : goal.overflow_add-result
+overflow_add-result c =
+    let w = lent_word c.word-w.result in
+    let at : c.from-p.result ≡ c.args.position.at = omega (arith, c.from-p.ensures) in
+    let small = weight_small w c.from-p.result c.word-w.ensures.word (omega (arith, at, c.requires.placed.within w c.word-w.ensures.lent)) in
+    omega (arith, c.from-weight.ensures, small, c.requires.room)
+
+pub overflow_add-result-else-is_good : goal.overflow_add-result-else-is_good
+overflow_add-result-else-is_good c =
+    let w = lent_word c.word-w.result in
+    let at : c.from-p.result ≡ c.args.position.at = omega (arith, c.from-p.ensures) in
+    let small = weight_small w c.from-p.result c.word-w.ensures.word (omega (arith, at, c.requires.placed.within w c.word-w.ensures.lent)) in
+    omega (arith, c.from-weight.ensures, small, c.requires.room)
+
+pub returns-then-is_good-clause-took : goal.returns-then-is_good-clause-took
+returns-then-is_good-clause-took c =
+    let w = lent_word c.word-w.result in
+    let at : c.from-p.result ≡ c.args.position.at = omega (arith, c.from-p.ensures) in
+    let small = weight_small w c.from-p.result c.word-w.ensures.word (omega (arith, at, c.requires.placed.within w c.word-w.ensures.lent)) in
+    omega (arith, c.from-weight.ensures, small)
+
+pub returns-else-is_good-clause-took : goal.returns-else-is_good-clause-took
+returns-else-is_good-clause-took c =
+    let w = lent_word c.word-w.result in
+    let at : c.from-p.result ≡ c.args.position.at = omega (arith, c.from-p.ensures) in
+    let small = weight_small w c.from-p.result c.word-w.ensures.word (omega (arith, at, c.requires.placed.within w c.word-w.ensures.lent)) in
+    omega (arith, c.from-weight.ensures, small)

@@ -1,7 +1,7 @@
 use Rattle.pg_select.specs.Inside.engine.Meanings.{Meaning}
 use Rattle.pg_dict.specs.Inside.SoundWords.{SignsAtMost}
-use Rattle.std.proofs.Common.{◌≡◌, ℕ, ◌+◌, ◌<◌, ◌≤◌, [], ◌∷◌, ◌++◌, List, Bool, false, None, Some, length, map, refl, sym, ap, subst, ◌∙◌, arith}
-use Rattle.std.specs.List.{flat_map}
+use Rattle.std.proofs.Common.{◌≡◌, ℕ, ◌+◌, ◌-◌, ◌<◌, ◌≤◌, [], ◌∷◌, ◌++◌, filter, List, Bool, false, not, None, Some, length, map, refl, sym, ap, subst, ◌∙◌, arith}
+use Rattle.std.specs.List.{flat_map, range_with_len}
 use Rattle.std.proofs.lemmas.List.{map-append}
 use Rattle.pg_dots.specs.Inside.Dots.{is_closed}
 use Rattle.pg_driver.specs.Inside.counting.Counting.{meaning_after_counting, HasRoom}
@@ -138,3 +138,16 @@ returns-in_err-push-clause-signs g c = c.count_sign.ensures.signs ∙ ap (λ (m 
 
 pub returns-clause-signs : goal.returns-clause-signs
 returns-clause-signs g c = ap (λ (m : Meaning). m.signs) c.signs.invariant.kept
+
+pub returns-clause-room : goal.returns-clause-room
+returns-clause-room g c = room_less _ _ 0 c.signs.invariant.room (omega arith)
+
+pub returns-clause-ok : goal.returns-clause-ok
+returns-clause-ok g c =
+    let m = g.E.Engine.meaning c.signs.engine in
+    let words = c.args.dictionary.now in
+    let closed : ℕ → Bool = is_closed c.args.dots.now c.args.pass.dot in
+    let all = ap (λ (xs : List ℕ). length xs) c.all_signs-signs.ensures in
+    let none : sign_count words - c.signs.next ≡ 0 = omega (arith, c.signs-test.false) in
+    ap (λ (n : ℕ). meaning_after_counting m (flat_map (counted_of c.args.pass words) (map (position_from 0 words) (filter (λ s. not (closed s)) (range_with_len c.signs.next n))))) (sym none)
+    ∙ c.signs.invariant.whole

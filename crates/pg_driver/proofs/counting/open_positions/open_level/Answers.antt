@@ -1,15 +1,18 @@
-use Rattle.std.proofs.Common.{◌≡◌, ◌+◌, ◌-◌, ◌<◌, ◌≤◌, ℕ, List, Bool, Some, true, false, not, ◌&&◌, slice_get, drop, length, inl, inr, refl, ap, sym, ◌∙◌, arith, rules}
+use Rattle.std.proofs.Common.{◌≡◌, ◌+◌, ◌-◌, ◌<◌, ◌≤◌, ℕ, List, [], Bool, Some, true, false, not, ◌&&◌, slice_get, drop, length, inl, inr, refl, ap, sym, ◌∙◌, arith}
 use Rattle.std.specs.List.{flat_map}
 use Rattle.std.proofs.lemmas.Bool.{cases_lt}
+use Rattle.std.proofs.lemmas.List.{drop_all}
 use Rattle.std.proofs.lemmas.Option.{slice_get_within}
+use Rattle.pg_types.specs.declared.marks.Mark.{Mark}
+use Rattle.pg_types.specs.declared.marks.Totals.{Totals}
 use Rattle.pg_dots.specs.Inside.Dots.{is_closed, position_count}
 use Rattle.pg_dots.specs.Inside.Positions.{is_among}
 use Rattle.pg_dict.specs.Inside.LentWords.{lent_word}
 use Rattle.pg_select.specs.CountedPositions.{minima_of}
 use Rattle.pg_dict.specs.Word.{Word}
 use Rattle.pg_select.specs.Sums.{marks_in}
-use Rattle.pg_select.specs.Inside.SumSteps.{with_marks}
-use Rattle.pg_select.proofs.MarkSteps.{marks_word}
+use Rattle.pg_select.specs.Inside.SumSteps.{with_marks, sum_of}
+use Rattle.pg_select.proofs.MarkSteps.{marks_none, marks_word, marks_zero}
 use Rattle.pg_driver.specs.Inside.counting.OpenSigns.{is_open_first, start_of, takes_part}
 use Rattle.pg_driver.proofs.OpenFirst.{cares_in, counts_in, opens_before, opens_behind}
 use Rattle.pg_driver.proofs.OpenSigns.{sign_within, signs_few, start_before, start_next, start_past, start_zero}
@@ -105,6 +108,7 @@ pub words-init : goal.words-init
 words-init g c =
     let all = ap (λ (xs : List ℕ). length xs) c.all_signs-signs.ensures in
     let few = signs_few c.args.dictionary.now c.len-count.ensures.words in
+    let marks : List (Mark × ℕ) = flat_map (marks_in (minima_of c.args.table.now) (g.E.Engine.meaning c.args.engine.now).patterns) c.args.dictionary.now in
     record {
       size = omega (arith, c.in_ok-dots.ensures.size);
       few = omega (arith, c.in_ok-dots.ensures.few, c.len-count.ensures.letters);
@@ -115,9 +119,9 @@ words-init g c =
       room = c.in_ok-never.ensures.room;
       never_before = λ n p w low at inside. absurd (omega arith);
       never_later = λ s from low. c.in_ok-never.ensures.among s low;
-      sums = search rules;
+      sums = ap (λ (t : Totals). with_marks t marks) c.no_totals.ensures ∙ marks_zero marks;
       reached = omega arith;
-      room_for = search rules;
+      room_for = omega (arith, ap sum_of c.no_totals.ensures, c.len-count.ensures.letters);
     }
 
 pub open_word-requires-clause-within : goal.open_word-requires-clause-within
@@ -153,3 +157,25 @@ returns-clause-never g c = λ n p w at low. c.words.invariant.never_before n p w
 pub returns-clause-closed : goal.returns-clause-closed
 returns-clause-closed g c = λ d n p w at low. c.words.invariant.before d n p w (let within = slice_get_within c.args.dictionary.now n w at in
     omega (arith, c.words-test.false, c.len-count.ensures.len)) at low
+
+pub word-w-requires : goal.word-w-requires
+word-w-requires g c = omega (arith, c.words-test.true, c.len-count.ensures.len)
+
+pub open_word-requires-clause-word : goal.open_word-requires-clause-word
+open_word-requires-clause-word g c = c.word-w.ensures.word
+
+pub open_word-requires-clause-few : goal.open_word-requires-clause-few
+open_word-requires-clause-few g c = c.words.invariant.few
+
+pub open_word-requires-clause-none : goal.open_word-requires-clause-none
+open_word-requires-clause-none g c = c.words.invariant.none
+
+pub returns-clause-size : goal.returns-clause-size
+returns-clause-size g c = c.words.invariant.size
+
+pub returns-clause-totals : goal.returns-clause-totals
+returns-clause-totals g c =
+    let P = (g.E.Engine.meaning c.args.engine.now).patterns in
+    let t = c.words.opened.totals in
+    let none : drop c.words.i c.args.dictionary.now ≡ [] = drop_all c.words.i c.args.dictionary.now (omega (arith, c.words-test.false, c.len-count.ensures.len)) in
+    sym (marks_none t) ∙ ap (λ (ws : List Word). with_marks t (flat_map (marks_in (minima_of c.args.table.now) P) ws)) (sym none) ∙ c.words.invariant.sums

@@ -1,5 +1,5 @@
 use Rattle.std.proofs.Common.{◌≡◌, ◌≤◌, ◌<◌, ◌+◌, ◌-◌, ℕ, true, false, not, ◌&&◌, nat_eq, length, is_some, List, map, refl, sym, ap, ◌∙◌, arith}
-use Rattle.std.specs.List.{slice_index_or}
+use Rattle.std.specs.List.{list_any, slice_index_or}
 use Rattle.pg_types.specs.declared.limits.TheConstants.{WEIGHT_MAX}
 use Rattle.pg_types.specs.declared.marks.Mark.{Mark}
 use Rattle.pg_dict.specs.Inside.SoundWords.{letter_count}
@@ -10,10 +10,11 @@ use Rattle.pg_select.specs.CountedPositions.{counts_as, minima_of}
 use Rattle.pg_select.specs.Statuses.{status, status_at, position_weight}
 use Rattle.pg_select.specs.Inside.SumSteps.{with_mark, with_marks, sum_of}
 use Rattle.pg_patterns.specs.Values.{value_at}
-use Rattle.pg_select.proofs.MarkSteps.{marks_step, mark_took, weight_small}
+use Rattle.pg_select.proofs.MarkSteps.{marks_none, marks_step, mark_took, weight_small}
 use Rattle.pg_driver.specs.Inside.counting.OpenSigns.{has_care}
 use Rattle.pg_driver.proofs.OpenFirst.{care_is, cares_in, counts_in, opens_first, opens_last, opens_next}
 use Rattle.pg_driver.proofs.WordSteps.{reach_few}
+use Rattle.pg_driver.proofs.Walks.{marks_done}
 use Rattle.pg_driver.proofs.counting.open_positions.open_word.Goals as goal
 
 pub positions-preserved : goal.positions-preserved
@@ -94,3 +95,70 @@ returns-clause-never g c = λ s low.
 
 pub note_care-requires : goal.note_care-requires
 note_care-requires g c = omega (arith, c.positions-test.true, c.in-Some.ensures.within, c.requires.within, c.positions.invariant.room)
+
+pub positions-requires : goal.positions-requires
+positions-requires g c = c.requires.word
+
+pub hyphenate-requires-clause-len : goal.hyphenate-requires-clause-len
+hyphenate-requires-clause-len g c = c.requires.word.short
+
+pub hyphenate-requires-clause-signs : goal.hyphenate-requires-clause-signs
+hyphenate-requires-clause-signs g c = c.requires.signs
+
+pub mark_at-mark-requires-clause-within : goal.mark_at-mark-requires-clause-within
+mark_at-mark-requires-clause-within g c = omega (arith, c.positions-test.true, c.in-Some.ensures.within)
+
+pub mark_at-mark-requires-clause-short : goal.mark_at-mark-requires-clause-short
+mark_at-mark-requires-clause-short g c = c.requires.word.short
+
+pub open_by_status-requires-clause-within : goal.open_by_status-requires-clause-within
+open_by_status-requires-clause-within g c = omega (arith, c.positions-test.true, c.in-Some.ensures.within, c.requires.within, c.positions.invariant.size)
+
+pub open_by_status-requires-clause-none : goal.open_by_status-requires-clause-none
+open_by_status-requires-clause-none g c = c.positions.invariant.none
+
+pub returns-clause-size : goal.returns-clause-size
+returns-clause-size g c = c.positions.invariant.size
+
+pub returns-clause-none : goal.returns-clause-none
+returns-clause-none g c = c.positions.invariant.none
+
+pub returns-clause-set_size : goal.returns-clause-set_size
+returns-clause-set_size g c = c.positions.invariant.room
+
+pub returns-clause-took : goal.returns-clause-took
+returns-clause-took g c = omega (arith, c.positions.invariant.took_for, c.positions.invariant.few)
+
+pub returns-clause-totals : goal.returns-clause-totals
+returns-clause-totals g c =
+    marks_done c.positions.opened.totals _ (g.E.Engine.meaning c.args.engine.now).patterns (lent_word c.args.w.now) c.positions.p c.in-Some.end c.positions-test.false c.positions.invariant.sums
+
+pub add_mark-opened-requires : goal.add_mark-opened-requires
+add_mark-opened-requires g c =
+    let w = lent_word c.args.w.now in
+    let within : c.positions.p < length w.signs = omega (arith, c.positions-test.true, c.in-Some.ensures.within) in
+    omega (arith, weight_small w c.positions.p c.requires.word within, c.positions.invariant.took_for, c.requires.room, c.positions-test.true, c.in-Some.ensures.few, c.positions.auto)
+
+pub returns-in_default-clause-totals : goal.returns-in_default-clause-totals
+returns-in_default-clause-totals g c =
+    let P = (g.E.Engine.meaning c.args.engine.now).patterns in
+    let w = lent_word c.args.w.now in
+    let t = c.args.opened.now.totals in
+    sym (marks_none t) ∙ ap (λ (ps : List ℕ). with_marks t (map (λ (q : ℕ). (status_at P w q, position_weight w q)) ps)) (sym c.in_default.ensures.none)
+
+pub returns-in_default-clause-closed : goal.returns-in_default-clause-closed
+returns-in_default-clause-closed g c = λ d s low.
+    let P = (g.E.Engine.meaning c.args.engine.now).patterns in
+    let q = s - c.args.before in
+    sym (ap (λ (ps : List ℕ). not (list_any (nat_eq q) ps && counts_in c.args.level P (lent_word c.args.w.now) q) && is_closed c.args.opened.now.dots d s) c.in_default.ensures.none)
+
+pub returns-in_default-clause-never : goal.returns-in_default-clause-never
+returns-in_default-clause-never g c = λ s low.
+    let q = s - c.args.before in
+    sym (ap (λ (ps : List ℕ). not (list_any (nat_eq q) ps && cares_in (lent_word c.args.w.now) q) && is_among c.args.opened.now.never s) c.in_default.ensures.none)
+
+pub returns-in_default-clause-reached : goal.returns-in_default-clause-reached
+returns-in_default-clause-reached g c = omega (arith, ap (λ (ps : List ℕ). length ps) c.in_default.ensures.none)
+
+pub returns-in_default-clause-took : goal.returns-in_default-clause-took
+returns-in_default-clause-took g c = omega arith

@@ -1,8 +1,13 @@
-use Rattle.std.proofs.Common.{◌≡◌, true, is_some, cond, Bool, List, ℕ, ◌++◌, ◌∷◌, [], sym, ap, ◌∙◌}
+use Rattle.std.proofs.Common.{◌≡◌, false, true, is_some, cond, Bool, List, ℕ, ◌++◌, ◌∷◌, [], sym, ap, ◌∙◌, arith}
 use Rattle.pg_dict.specs.Inside.LentWords.{lent_word}
-use Rattle.pg_select.specs.CountedPositions.{counted_positions_at}
+use Rattle.pg_select.specs.CountedPositions.{counted_positions_at, counts_as}
 use Rattle.pg_select.specs.Inside.laws.AboveLevel.{counts_above}
 use Rattle.pg_driver.proofs.AboveNumbers.{above_found, is_some_above, number_noted}
+use Rattle.std.specs.List.{slice_index_or}
+use Rattle.pg_types.specs.declared.marks.Mark.{Mark}
+use Rattle.pg_select.specs.Statuses.{position_weight, status, status_at}
+use Rattle.pg_select.specs.Inside.SumSteps.{with_mark}
+use Rattle.pg_select.proofs.MarkSteps.{weight_small}
 use Rattle.pg_driver.proofs.counting.words.count_position.Goals as goal
 
 pub returns-in_ok-push-clause-numbers : goal.returns-in_ok-push-clause-numbers
@@ -64,3 +69,39 @@ returns-else-is_above-clause-ok g c = c.in_ok-number.ensures.ok
 
 pub returns-else-is_above-clause-signs : goal.returns-else-is_above-clause-signs
 returns-else-is_above-clause-signs g c = c.count_at.ensures.signs
+
+pub mark_at-mark-requires-clause-within : goal.mark_at-mark-requires-clause-within
+mark_at-mark-requires-clause-within g c = c.requires.within
+
+pub mark_at-mark-requires-clause-short : goal.mark_at-mark-requires-clause-short
+mark_at-mark-requires-clause-short g c = c.requires.read.word.short
+
+pub is_above-requires : goal.is_above-requires
+is_above-requires g c = omega (arith, c.requires.within, c.requires.read.word.short)
+
+pub add_mark-requires : goal.add_mark-requires
+add_mark-requires g c = omega (arith, weight_small (lent_word c.args.w.now) c.args.p c.requires.read.word c.requires.within, c.requires.room_for)
+
+pub returns-in_ok-push-clause-sums : goal.returns-in_ok-push-clause-sums
+returns-in_ok-push-clause-sums g c =
+    let w = lent_word c.args.w.now in
+    let P = (g.E.Engine.meaning c.args.engine.now).patterns in
+    let mark : c.mark_at-mark.result ≡ status_at P w c.args.p = c.mark_at-mark.ensures
+    ∙ ap (λ (v : ℕ). status (slice_index_or w.hyphens c.args.p false) (slice_index_or w.cares c.args.p true) v) (c.requires.read.values c.args.p c.requires.within) in
+    c.add_mark.ensures ∙ ap (λ (x : Mark). with_mark c.args.sums.now x (position_weight w c.args.p)) mark
+
+pub returns-else-is_above-clause-sums : goal.returns-else-is_above-clause-sums
+returns-else-is_above-clause-sums g c =
+    let w = lent_word c.args.w.now in
+    let P = (g.E.Engine.meaning c.args.engine.now).patterns in
+    let mark : c.mark_at-mark.result ≡ status_at P w c.args.p = c.mark_at-mark.ensures
+    ∙ ap (λ (v : ℕ). status (slice_index_or w.hyphens c.args.p false) (slice_index_or w.cares c.args.p true) v) (c.requires.read.values c.args.p c.requires.within) in
+    c.add_mark.ensures ∙ ap (λ (x : Mark). with_mark c.args.sums.now x (position_weight w c.args.p)) mark
+
+pub count_at-requires-clause-good : goal.count_at-requires-clause-good
+count_at-requires-clause-good g c =
+    let w = lent_word c.args.w.now in
+    let P = (g.E.Engine.meaning c.args.engine.now).patterns in
+    let mark : c.mark_at-mark.result ≡ status_at P w c.args.p = c.mark_at-mark.ensures
+    ∙ ap (λ (v : ℕ). status (slice_index_or w.hyphens c.args.p false) (slice_index_or w.cares c.args.p true) v) (c.requires.read.values c.args.p c.requires.within) in
+    c.counts_as-good.ensures ∙ ap (λ (x : Mark). counts_as c.args.pass.level x) mark

@@ -1,4 +1,5 @@
-use Rattle.std.proofs.Common.{◌≡◌, ℕ, ◌≤◌, ◌<◌, ◌+◌, ◌-◌, ◌++◌, Bool, List, length, refl, sym, ap, subst, ◌∙◌, append-nil, append_assoc, arith}
+use Rattle.std.proofs.Common.{◌≡◌, ℕ, ◌≤◌, ◌<◌, ◌+◌, ◌-◌, ◌++◌, Bool, List, [], length, map, refl, sym, ap, subst, ◌∙◌, append-nil, append_assoc, arith}
+use Rattle.std.specs.List.{flat_map}
 use Rattle.pg_dict.specs.Inside.LentWords.{lent_word}
 use Rattle.pg_dict.specs.Inside.SoundWords.{letter_count}
 use Rattle.pg_select.specs.Inside.engine.Meanings.{Meaning}
@@ -13,10 +14,10 @@ use Rattle.pg_driver.specs.Inside.counting.WordLevels.{listing}
 use Rattle.pg_driver.proofs.WordLevels.{none_listed_in}
 use Rattle.pg_select.specs.Statuses.{status_at, position_weight}
 use Rattle.pg_types.specs.declared.limits.TheConstants.{WEIGHT_MAX}
-use Rattle.pg_driver.specs.Inside.counting.Counting.{IsRead}
-use Rattle.pg_select.specs.Inside.SumSteps.{with_mark, sum_of}
-use Rattle.pg_select.proofs.MarkSteps.{marks_step, mark_took, weight_small}
-use Rattle.pg_driver.proofs.Rooms.{room_left, took_less}
+use Rattle.pg_driver.specs.Inside.counting.Counting.{IsRead, meaning_after_counting}
+use Rattle.pg_select.specs.Inside.SumSteps.{with_mark, with_marks, sum_of}
+use Rattle.pg_select.proofs.MarkSteps.{marks_none, marks_step, mark_took, weight_small}
+use Rattle.pg_driver.proofs.Rooms.{room_left, took_less, took_none}
 use Rattle.pg_driver.proofs.Walks.{kept_on, read_on, position_step, room_on, counted_done, marks_done, listed_done}
 use Rattle.pg_driver.proofs.WordSteps.{reach_few}
 use Rattle.pg_driver.proofs.counting.words.count_word.Goals as goal
@@ -178,3 +179,73 @@ returns-in_default-clause-took_for g c = omega arith
 
 pub count_position-requires-clause-within : goal.count_position-requires-clause-within
 count_position-requires-clause-within g c = omega (arith, c.positions-test.true, c.in-Some.ensures.within)
+
+pub positions-init : goal.positions-init
+positions-init g c =
+    let m0 = g.E.Engine.meaning c.args.engine.now in
+    let w = lent_word c.args.w.now in
+    let reach = c.in-Some.ensures.some in
+    record {
+      kept = refl;
+      whole = ap (λ (ps : List ℕ). meaning_after_counting m0 (flat_map (counted_positions_at m0.pass m0.patterns m0.hopeless w) ps)) (sym reach);
+      few = omega arith;
+      took = took_none m0.counts (letter_count w) _ c.requires.room;
+      sums = ap (λ (ps : List ℕ). with_marks c.args.sums.now (map (λ (q : ℕ). (status_at m0.patterns w q, position_weight w q)) ps)) (sym reach);
+      took_for = omega arith;
+      listed = [];
+      upto = ap (λ (ps : List ℕ). flat_map (λ (p : ℕ). open_as c.args.word p (counts_above c.args.pass.level m0.patterns w p)) ps) (sym reach);
+      numbers = λ words entries at before.
+          subst (λ (es : List WordPosition). HaveNumbers c.args.pass (uncovered_at c.args.pass m0.patterns m0.hopeless) words m0.windows es c.args.numbers.now.items)
+          (sym (append-nil entries)) before;
+    }
+
+pub positions-requires : goal.positions-requires
+positions-requires g c = c.requires.word
+
+pub hyphenate-requires-clause-len : goal.hyphenate-requires-clause-len
+hyphenate-requires-clause-len g c = c.requires.word.short
+
+pub hyphenate-requires-clause-signs : goal.hyphenate-requires-clause-signs
+hyphenate-requires-clause-signs g c = c.requires.signs
+
+pub count_position-requires-clause-room_for : goal.count_position-requires-clause-room_for
+count_position-requires-clause-room_for g c =
+    omega (arith, c.positions.invariant.took_for, c.requires.room_for, c.positions-test.true, c.in-Some.ensures.few, c.positions.auto)
+
+pub returns-in_ok-list_above-clause-took_for : goal.returns-in_ok-list_above-clause-took_for
+returns-in_ok-list_above-clause-took_for g c = omega (arith, c.positions.invariant.took_for, c.positions.invariant.few)
+
+pub returns-else-lists-clause-took_for : goal.returns-else-lists-clause-took_for
+returns-else-lists-clause-took_for g c = omega (arith, c.positions.invariant.took_for, c.positions.invariant.few)
+
+pub returns-in_default-clause-ok : goal.returns-in_default-clause-ok
+returns-in_default-clause-ok g c =
+    let m0 = g.E.Engine.meaning c.args.engine.now in
+    ap (λ (ps : List ℕ). meaning_after_counting m0 (flat_map (counted_positions_at m0.pass m0.patterns m0.hopeless (lent_word c.args.w.now)) ps)) (sym c.in_default.ensures.none)
+
+pub returns-in_default-clause-sums : goal.returns-in_default-clause-sums
+returns-in_default-clause-sums g c =
+    let P = (g.E.Engine.meaning c.args.engine.now).patterns in
+    let w = lent_word c.args.w.now in
+    sym (marks_none c.args.sums.now)
+    ∙ ap (λ (ps : List ℕ). with_marks c.args.sums.now (map (λ (q : ℕ). (status_at P w q, position_weight w q)) ps)) (sym c.in_default.ensures.none)
+
+pub returns-in_default-clause-above : goal.returns-in_default-clause-above
+returns-in_default-clause-above g c =
+    let P = (g.E.Engine.meaning c.args.engine.now).patterns in
+    let f : ℕ → List WordPosition = λ q. open_as c.args.word q (listing c.args.lists c.args.pass.level P (lent_word c.args.w.now) q) in
+    sym (append-nil c.args.above.now.items) ∙ ap (λ (ps : List ℕ). c.args.above.now.items ++ flat_map f ps) (sym c.in_default.ensures.none)
+
+pub returns-in_default-clause-numbers : goal.returns-in_default-clause-numbers
+returns-in_default-clause-numbers g c = λ words entries at before.
+    let m0 = g.E.Engine.meaning c.args.engine.now in
+    let pass = c.args.pass in
+    let f : ℕ → List WordPosition = λ q. open_as c.args.word q (counts_above pass.level m0.patterns (lent_word c.args.w.now) q) in
+    subst (λ (es : List WordPosition). HaveNumbers pass (uncovered_at pass m0.patterns m0.hopeless) words m0.windows es c.args.numbers.now.items)
+    (sym (append-nil entries) ∙ ap (λ (ps : List ℕ). entries ++ flat_map f ps) (sym c.in_default.ensures.none)) before
+
+pub returns-in_default-clause-took : goal.returns-in_default-clause-took
+returns-in_default-clause-took g c = took_none (g.E.Engine.meaning c.args.engine.now).counts _ _ c.requires.room
+
+pub returns-in_default-clause-reached : goal.returns-in_default-clause-reached
+returns-in_default-clause-reached g c = omega (arith, ap (λ (ps : List ℕ). length ps) c.in_default.ensures.none)

@@ -1,6 +1,7 @@
-use Rattle.std.proofs.Common.{◌≡◌, ◌+◌, ◌++◌, ℕ, None, Some, List, [], drop, length, refl, ap, subst, sym, ◌∙◌, arith, rules}
+use Rattle.std.proofs.Common.{◌≡◌, ◌+◌, ◌++◌, ℕ, None, Some, List, [], drop, length, refl, ap, subst, sym, ◌∙◌, arith}
 use Rattle.std.specs.List.{flat_map, sum_by}
 use Rattle.std.proofs.lemmas.List.{append-nil, drop_all}
+use Rattle.pg_types.specs.declared.marks.Totals.{Totals}
 use Rattle.pg_types.specs.Inside.Signs.{SignsWithin}
 use Rattle.pg_dict.specs.Inside.LentWords.{lent_word}
 use Rattle.pg_dict.specs.Word.{Word}
@@ -10,9 +11,9 @@ use Rattle.pg_select.specs.Inside.engine.Meanings.{Meaning}
 use Rattle.pg_select.specs.CountedPositions.{counted_positions, minima_of}
 use Rattle.pg_select.specs.Inside.words.WordCounts.{counted_positions_in}
 use Rattle.pg_select.specs.Sums.{marks_in}
-use Rattle.pg_select.specs.Inside.SumSteps.{with_marks}
+use Rattle.pg_select.specs.Inside.SumSteps.{with_marks, sum_of}
 use Rattle.pg_driver.specs.Inside.counting.Counting.{HasRoom, meaning_after_counting}
-use Rattle.pg_select.proofs.MarkSteps.{marks_word}
+use Rattle.pg_select.proofs.MarkSteps.{marks_none, marks_word, marks_zero}
 use Rattle.pg_driver.specs.Inside.counting.OpenLevels.{listed_from, listed_in}
 use Rattle.pg_select.specs.Inside.laws.AboveLevel.{counts_above}
 use Rattle.pg_driver.specs.declared.pass_windows.WordPosition.{WordPosition}
@@ -51,10 +52,11 @@ words-init g c = record {
   whole = refl;
   room = subst (λ (cs : Counts). HasRoom cs (sum_by letter_count c.args.dictionary.now)) (sym c.requires.begun.fresh)
       (room_none (sum_by letter_count c.args.dictionary.now) c.len-i-end.ensures.letters);
-  sums = search rules;
-  above = search rules;
+  sums = ap (λ (t : Totals). with_marks t (flat_map (marks_in (minima_of c.args.table.now) (g.E.Engine.meaning c.args.engine.now).patterns) c.args.dictionary.now)) c.no_totals-sums.ensures
+      ∙ marks_zero (flat_map (marks_in (minima_of c.args.table.now) (g.E.Engine.meaning c.args.engine.now).patterns) c.args.dictionary.now);
+  above = refl;
   reached = omega arith;
-  room_for = search rules;
+  room_for = omega (arith, ap sum_of c.no_totals-sums.ensures, c.len-i-end.ensures.letters);
   listed = [];
   upto = refl;
   numbers = record { size = ap length c.requires.none; each = λ k e n at to. absurd (let no : None ≡ Some e = at in cc) };
@@ -151,3 +153,14 @@ returns-clause-room g c =
     let m = g.E.Engine.meaning c.words.engine in
     let none : drop c.words.i c.args.dictionary.now ≡ [] = drop_all c.words.i c.args.dictionary.now (omega (arith, c.words-test.false, c.len-i-end.ensures.len)) in
     subst (λ (ws : List Word). HasRoom m.counts (sum_by letter_count ws)) none c.words.invariant.room
+
+pub returns-clause-totals : goal.returns-clause-totals
+returns-clause-totals g c =
+    let P = (g.E.Engine.meaning c.args.engine.now).patterns in
+    let none : drop c.words.i c.args.dictionary.now ≡ [] = drop_all c.words.i c.args.dictionary.now (omega (arith, c.words-test.false, c.len-i-end.ensures.len)) in
+    sym (marks_none c.words.sums)
+    ∙ ap (λ (ws : List Word). with_marks c.words.sums (flat_map (marks_in (minima_of c.args.table.now) P) ws)) (sym none)
+    ∙ c.words.invariant.sums
+
+pub returns-clause-small : goal.returns-clause-small
+returns-clause-small g c = omega (arith, c.words.invariant.room_for)

@@ -1,5 +1,5 @@
-use Rattle.std.proofs.Common.{◌≡◌, ◌≤◌, ◌+◌, ◌-◌, ◌++◌, length, drop, sum_by, ap, ◌∙◌, arith}
-use Rattle.std.proofs.lemmas.List.Elements.{All-append, All-same}
+use Rattle.std.proofs.Common.{◌≡◌, ◌≤◌, ◌+◌, ◌-◌, ◌++◌, List, [], sym, length, drop, sum_by, ap, ◌∙◌, arith}
+use Rattle.std.proofs.lemmas.List.Elements.{All-append, All-nil, All-same}
 use Rattle.pg_dict.specs.Inside.LentWords.{lent_word}
 use Rattle.pg_dict.specs.Inside.SoundWords.{letter_count}
 use Rattle.pg_dict.proofs.WordStore.Parts.{letters_from}
@@ -7,6 +7,9 @@ use Rattle.pg_select.specs.CountedPositions.{minima_of}
 use Rattle.pg_prune.specs.Inside.positions.Trails.{IsStart, starts_in, starts_from, reach_count, count_between}
 use Rattle.pg_prune.specs.Inside.positions.Trails.{all_starts as all_starts_of}
 use Rattle.pg_prune.proofs.positions.TrailStarts.{word_more, known_in}
+use Rattle.std.proofs.lemmas.List.{append-nil, drop_all}
+use Rattle.pg_dict.specs.Word.{Word}
+use Rattle.pg_prune.specs.declared.positions.trail.Start.{Start}
 use Rattle.pg_prune.proofs.positions.trail.all_starts.Goals as goal
 use Rattle.pg_prune.proofs.positions.trail.all_starts.Goals.{in-Some, in_default}
 
@@ -35,3 +38,26 @@ words-preserved c =
       known = All-same (IsStart ws) _ _ added (All-append (IsStart ws) c.words.starts.items (starts_in c.words.word c.words.before (length w.signs)) c.words.invariant.known
           (known_in ws c.words.word c.words.before w c.word-w.ensures.lent (omega arith) (omega (arith, c.words.invariant.few))));
     }
+
+pub word-w-requires : goal.word-w-requires
+word-w-requires c = omega (arith, c.words-test.true, c.len-word-end.ensures.len)
+
+pub words-init : goal.words-init
+words-init c =
+    let ws = c.args.dictionary.now in
+    record {
+      whole = ap (λ (xs : List Start). xs ++ all_starts_of (minima_of c.args.table.now) ws) c.new-starts.ensures.items;
+      few = omega (arith, c.len-word-end.ensures.letters);
+      known = All-same (IsStart ws) _ _ c.new-starts.ensures.items (All-nil (IsStart ws));
+    }
+
+pub returns-clause-starts : goal.returns-clause-starts
+returns-clause-starts c =
+    let ws = c.args.dictionary.now in
+    let none : drop c.words.word ws ≡ [] = drop_all c.words.word ws (omega (arith, c.words-test.false, c.len-word-end.ensures.len)) in
+    sym (append-nil c.words.starts.items)
+    ∙ ap (λ (us : List Word). c.words.starts.items ++ starts_from (minima_of c.args.table.now) c.words.word c.words.before us) (sym none)
+    ∙ c.words.invariant.whole
+
+pub returns-clause-known : goal.returns-clause-known
+returns-clause-known c = c.words.invariant.known

@@ -2,6 +2,9 @@ use Rattle.std.proofs.Common.{◌++◌, ◌∷◌, [], List, Vec, Global, ℕ, a
 use Rattle.pg_select.specs.CountedPositions.{minima_of}
 use Rattle.pg_prune.specs.Inside.positions.Trails.{number_at_dot}
 use Rattle.pg_prune.proofs.positions.TrailLists.{given_more, given_none}
+use Rattle.std.specs.List.{filter_map}
+use Rattle.std.proofs.lemmas.List.{take_all}
+use Rattle.pg_prune.specs.declared.positions.trail.Start.{Start}
 use Rattle.pg_prune.proofs.positions.trail.standing.Goals as goal
 use Rattle.pg_prune.proofs.positions.trail.standing.Goals.{in-Some+in_ok-push, in_default}
 
@@ -19,3 +22,14 @@ starts-preserved c =
           ∙ c.starts.invariant
           ∙ given_none f c.args.starts.now c.starts.start-index _ c.starts-test.true w.in_default.ensures
     ]
+
+pub starts-init : goal.starts-init
+starts-init c = c.new-numbers.ensures.items
+
+pub number_at_dot-requires : goal.number_at_dot-requires
+number_at_dot-requires c = c.requires c.starts.start-index _ c.starts-test.true
+
+pub returns : goal.returns
+returns c =
+    c.starts.invariant
+    ∙ ap (λ (ss : List Start). filter_map (number_at_dot (minima_of c.args.table.now) c.args.dictionary.now c.args.dot) ss) (take_all c.starts.start-index c.args.starts.now c.starts-test.false)

@@ -1,6 +1,6 @@
 use Rattle.std.proofs.Common.{◌≡◌, ◌≤◌, ◌+◌, ◌++◌, ◌∷◌, [], length, take, map, get_or, ap, sym, ◌∙◌, arith, List, ℕ}
 use Rattle.std.specs.List.{filter}
-use Rattle.std.proofs.lemmas.List.{take-map, map-append, take_more}
+use Rattle.std.proofs.lemmas.List.{take-map, map-append, take_all, take_more}
 use Rattle.std.proofs.lemmas.List.Elements.{All-filter, All-same}
 use Rattle.pg_prune.specs.declared.positions.trail.Start.{Start}
 use Rattle.pg_prune.specs.Inside.positions.Trails.{IsStart, begins_at, starts_of, trail_upto, last_list}
@@ -50,3 +50,15 @@ signs-preserved c =
           ∙ ap (λ (x : List Start). trail_upto ws all u i ++ x ∷ []) found
           ∙ trail_more ws all u i;
     }
+
+pub longer-requires-clause-few : goal.longer-requires-clause-few
+longer-requires-clause-few c = omega (arith, c.signs-test.true, c.requires.few)
+
+pub returns-clause-trail : goal.returns-clause-trail
+returns-clause-trail c =
+    let u = c.args.signs.now in
+    let same : c.signs.i ≡ length u = omega (arith, c.signs-test.false, c.signs.auto, c.common-kept.ensures.second) in
+    c.signs.invariant.starts ∙ ap (trail_upto c.args.dictionary.now c.args.all.now u) same
+
+pub returns-clause-signs : goal.returns-clause-signs
+returns-clause-signs c = c.signs.invariant.signs ∙ take_all c.signs.i c.args.signs.now c.signs-test.false
