@@ -1,4 +1,6 @@
-use Rattle.std.proofs.Common.{sym}
+use Rattle.std.proofs.Common.{sym, refl, subst}
+use Rattle.std.proofs.lemmas.Result.{on_err_weaker, on_ok_weaker}
+use Rattle.pg_cells.specs.Inside.linked.Walks.{StepsBy}
 use Rattle.pg_cells.proofs.walks.step_or_add.Goals as goal
 
 pub returns-in-Some-clause-cell : goal.returns-in-Some-clause-cell
@@ -15,3 +17,19 @@ returns-in-Some-clause-kept g c = c.requires.held
 
 pub returns-clause-err : goal.returns-clause-err
 returns-clause-err g c = c.add.ensures.err
+
+pub returns-in-Some-clause-steps : goal.returns-in-Some-clause-steps
+returns-in-Some-clause-steps g c q e =
+    let h = c.args.cells.now in
+    subst (λ o. StepsBy g.row.FEW o h h q c.args.s c.args.blank) (c.in-Some.ensures.cell q e) refl
+
+pub returns-clause-steps : goal.returns-clause-steps
+returns-clause-steps g c q e =
+    on_ok_weaker c.add.result
+    (λ is. subst (λ o. StepsBy g.row.FEW o c.args.cells.now c.add.new.self q c.args.s c.args.blank) (c.in_default.ensures.cell q e) is) (c.add.ensures.held q e)
+
+pub returns-clause-cell : goal.returns-clause-cell
+returns-clause-cell g c q e = c.add.ensures.cell q e
+
+pub returns-clause-ends : goal.returns-clause-ends
+returns-clause-ends g c q e = on_err_weaker c.add.result (λ _. c.in_default.ensures.none q e refl) c.add.ensures.err

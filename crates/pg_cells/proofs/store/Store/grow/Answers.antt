@@ -1,9 +1,9 @@
-use Rattle.std.proofs.Common.{◌≤◌, length, subst, sym, arith, refl}
+use Rattle.std.proofs.Common.{◌≤◌, length, subst, sym, arith, refl, ◌∙◌}
 use Rattle.std.proofs.lemmas.List.{length-map}
 use Rattle.pg_cells.specs.declared.store.bit_set.BitSet.{BitSet}
 use Rattle.pg_cells.specs.Inside.store.BitSets.{room_of}
-use Rattle.std.proofs.lemmas.Result.{on_ok_weaker}
-use Rattle.pg_cells.specs.Inside.store.CellRows.{row_of, sign_seen}
+use Rattle.std.proofs.lemmas.Result.{on_ok_weaker, err_from_is_err_and}
+use Rattle.pg_cells.specs.Inside.store.CellRows.{row_of, sign_seen, Row}
 use Rattle.pg_cells.specs.Inside.store.Store.{Extends, IsRow}
 use Rattle.pg_cells.proofs.ChainSteps.{signs_long}
 use Rattle.pg_cells.proofs.RowWrites.{is_row}
@@ -12,6 +12,7 @@ use Rattle.pg_cells.proofs.BoundLaws.{bounds_grow}
 use Rattle.pg_cells.proofs.SetLaws.{sets_grow}
 use Rattle.pg_cells.proofs.StoreSteps.{kept_extended}
 use Rattle.pg_cells.proofs.GivenMembers.{extends_itself}
+use Rattle.pg_cells.specs.declared.store.member.Member.{Member}
 use Rattle.pg_cells.proofs.store.Store.grow.Goals as goal
 
 pub invariant_of-self-2 : goal.invariant_of-self-2
@@ -65,3 +66,35 @@ returns-in_err-make_room-clause-row g c = let small = c.self.invariant.kept.smal
 
 pub returns-in_err-make_room-2-clause-row : goal.returns-in_err-make_room-2-clause-row
 returns-in_err-make_room-2-clause-row g c = let small = c.self.invariant.kept.small in is_row c.self.inside.cells.items (omega arith)
+
+pub returns-then-count-len-clause-length : goal.returns-then-count-len-clause-length
+returns-then-count-len-clause-length g c =
+    let cells = c.self.inside.cells in
+    subst (λ (r : Row (Member g.row.V.Denot)). c.args.count ≤ length r.signs) c.self.view_is
+    (subst (λ n. c.args.count ≤ n) (c.len.ensures ∙ cells.ok.0 ∙ sym (signs_long cells.items)) c.if-count-len.true)
+
+pub returns-in_err-make_room-clause-extends : goal.returns-in_err-make_room-clause-extends
+returns-in_err-make_room-clause-extends g c = let row = row_of c.self.inside.cells.items in subst (λ r. Extends r row) c.self.view_is (extends_itself row)
+
+pub returns-in_err-make_room-clause-length : goal.returns-in_err-make_room-clause-length
+returns-in_err-make_room-clause-length g c = let err = err_from_is_err_and c.from_residual.result c.from_residual.ensures.1 in rw err.1 tt
+
+pub invariant_of-self-in_err-make_room-2 : goal.invariant_of-self-in_err-make_room-2
+invariant_of-self-in_err-make_room-2 g c =
+    let sets = c.self.invariant.sets in
+    let row = row_of c.self.inside.cells.items in
+    record {
+      kept = c.self.invariant.kept;
+      sets = sets_grow row c.self.inside.taken_set c.self.inside.bases sets row c.make_room.new.self c.make_room-2.new.self
+          (extends_itself row) (omega (arith, sets.cell_room, c.make_room.ensures.grows)) (omega (arith, sets.base_room, c.make_room-2.ensures.grows))
+          c.make_room.ensures.same c.make_room-2.ensures.same;
+      few = c.self.invariant.few;
+      bounds = c.self.invariant.bounds;
+      blocked = c.self.invariant.blocked;
+    }
+
+pub returns-in_err-make_room-2-clause-extends : goal.returns-in_err-make_room-2-clause-extends
+returns-in_err-make_room-2-clause-extends g c = let row = row_of c.self.inside.cells.items in subst (λ r. Extends r row) c.self.view_is (extends_itself row)
+
+pub returns-in_err-make_room-2-clause-length : goal.returns-in_err-make_room-2-clause-length
+returns-in_err-make_room-2-clause-length g c = let err = err_from_is_err_and c.from_residual-in_err-make_room-2.result c.from_residual-in_err-make_room-2.ensures.1 in rw err.1 tt

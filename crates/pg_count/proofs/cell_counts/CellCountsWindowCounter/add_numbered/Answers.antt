@@ -1,4 +1,4 @@
-use Rattle.std.proofs.Common.{ℕ, Option, take, length, unwrap_or, refl, ap, sym, subst, ◌∙◌, arith}
+use Rattle.std.proofs.Common.{ℕ, Option, take, length, unwrap_or, refl, ap, sym, subst, ◌∙◌, arith, ◌≤◌}
 use Rattle.std.proofs.lemmas.Result.{err_from_is_err_and}
 use Rattle.std.specs.List.{slice_get}
 use Rattle.pg_types.specs.Inside.Signs.{SignsWithin}
@@ -10,7 +10,8 @@ use Rattle.pg_count.specs.Inside.cells.Leaves.{AreLeaves}
 use Rattle.pg_count.specs.Inside.WindowRow.{WindowRow}
 use Rattle.pg_count.proofs.LeafLaws.Adding.{counting_with, counted_again, counted_new}
 use Rattle.pg_count.proofs.LeafLaws.Leaves.{again_leaves, again_sets}
-use Rattle.pg_count.proofs.LeafLaws.Wholes.{counted_back, counts_there, kept_counting}
+use Rattle.pg_count.proofs.LeafLaws.Wholes.{counted_back, counts_there, kept_counting, none_counted}
+use Rattle.pg_types.specs.declared.limits.TheConstants.{LENGTH_MAX}
 use Rattle.pg_count.proofs.cell_counts.CellCountsWindowCounter.add_numbered.Goals as goal
 
 pub add_weight-requires : goal.add_weight-requires
@@ -146,3 +147,31 @@ returns-in-Some-clause-there c = λ _. refl
 
 pub returns-in-Some-clause-err : goal.returns-in-Some-clause-err
 returns-in-Some-clause-err c = tt
+
+pub add_weight-sums-requires : goal.add_weight-sums-requires
+add_weight-sums-requires c =
+    let u = c.args.window.now in
+    let found = sym (ap (λ (d : Counting). counted_sums d.counted.counts u) c.self.view_is)
+    ∙ none_counted c.self.inside.cells c.self.inside.windows.items c.self.inside.windows.len c.self.invariant.leaves u (c.in-None.ensures.none refl) in
+    subst (λ (k : ℕ). AreSmall (with_weight (0, 0) c.args.good k)) (sym c.from-in-None.ensures)
+    (subst (λ (o : Option (ℕ × ℕ)). AreSmall (with_weight (unwrap_or o (0, 0)) c.args.good c.args.weight)) found c.requires.small)
+
+pub invariant_of-self-in_err-number-in-None : goal.invariant_of-self-in_err-number-in-None
+invariant_of-self-in_err-number-in-None c =
+    let ensures = c.in_err-number-in-None.ensures in
+    let size = sym (ap (λ (l : WindowRow). l.len) ensures.err) in
+    record {
+      leaves = subst (AreLeaves c.count_new.new.cells c.count_new.new.windows.items) (c.requires.len ∙ sym (ap (λ (d : Counting). d.len) c.self.view_is) ∙ size) ensures.leaves;
+      some = subst (λ (k : ℕ). 1 ≤ k) size c.self.invariant.some;
+      most = subst (λ (k : ℕ). k ≤ LENGTH_MAX) size c.self.invariant.most;
+    }
+
+pub invariant_of-self-in-None : goal.invariant_of-self-in-None
+invariant_of-self-in-None c =
+    let ensures = c.in_ok-number-in-None.ensures in
+    let size = sym (ap (λ (l : WindowRow). l.len) ensures.windows) in
+    record {
+      leaves = subst (AreLeaves c.count_new.new.cells c.count_new.new.windows.items) (c.requires.len ∙ sym (ap (λ (d : Counting). d.len) c.self.view_is) ∙ size) ensures.leaves;
+      some = subst (λ (k : ℕ). 1 ≤ k) size c.self.invariant.some;
+      most = subst (λ (k : ℕ). k ≤ LENGTH_MAX) size c.self.invariant.most;
+    }

@@ -1,11 +1,12 @@
-use Rattle.std.proofs.Common.{◌≡◌, true, false, get_or, slice_get, Some, ap, sym, ◌∙◌, arith}
-use Rattle.std.proofs.lemmas.Option.{slice_get-get_or}
+use Rattle.std.proofs.Common.{◌≡◌, true, false, get_or, slice_get, Some, ap, sym, ◌∙◌, arith, ℕ, ◌+◌, ◌^◌, ◌≤◌, ◌-◌, subst}
+use Rattle.std.proofs.lemmas.Option.{slice_get-get_or, slice_get_within}
 use Rattle.std.specs.Ordering.{is_lt}
 use Rattle.std.specs.declared.cmp.Ordering.TheVariants.{Less}
 use Rattle.pg_types.proofs.BoolFacts.{less_is}
 use Rattle.pg_types.proofs.StringEntries.{order}
 use Rattle.pg_count.proofs.TableLaws.Searching.{least_there, none_here, none_left}
 use Rattle.pg_count.proofs.table.above.least_above.Goals.{then-first-numbers+else-is_lt, else-first-numbers}
+use Rattle.pg_count.specs.declared.table.short.TheConstants.{ENTRIES_MAX}
 use Rattle.pg_count.proofs.table.above.least_above.Goals as goal
 
 pub returns-then-is_lt : goal.returns-then-is_lt
@@ -39,3 +40,21 @@ returns c =
     let t = c.requires.tabled in
     none_left c.args.numbers.now c.args.first c.args.windows.now.items t.0 c.args.signs c.args.windows.now.len t.1 c.args.above.now c.loop-index.index c.loop-index.invariant
     (omega (arith, c.loop-index-test.false))
+
+pub first_index-from-requires : goal.first_index-from-requires
+first_index-from-requires c = record { few = subst (λ (k : ℕ). (c.args.signs + 1) ^ k ≤ ENTRIES_MAX) (sym c.window_len.ensures) c.requires.few }
+
+pub loop-index-init : goal.loop-index-init
+loop-index-init c = λ v n at above.
+    let long = c.requires.tabled.1.long v n at in
+    c.first_index-from.ensures v (long.0 ∙ sym c.window_len.ensures) long.1 (ap (λ z. order z v) c.signs.ensures.value ∙ above)
+
+pub get-requires : goal.get-requires
+get-requires c =
+    let i = c.loop-index.index in
+    let k = get_or c.args.numbers.now i 0 in
+    let told = c.requires.tabled.1.back i k (slice_get-get_or c.args.numbers.now i 0 c.loop-index-test.true) c.if-first-numbers.true in
+    slice_get_within c.args.windows.now.items (k - c.args.first) told.0 told.1
+
+pub overflow_sub-number : goal.overflow_sub-number
+overflow_sub-number c = c.if-first-numbers.true

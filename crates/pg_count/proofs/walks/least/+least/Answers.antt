@@ -137,3 +137,6 @@ pub least_at-returns : goal.least_at-returns
 least_at-returns t c q at =
     let told = rw c.families-families.ensures.families at c.child-below.ensures.base in
     c.least.ensures q (family_below c.args.cells.now q c.child-below.result (told q at) c.if-below-eq0.false)
+
+pub least-overflow_sub-more : goal.least-overflow_sub-more
+least-overflow_sub-more t c = some_more c.args.cells.now c.requires.leaves.1.held c.requires.base.0 c.args.base c.args.more c.requires.base.1.0 c.requires.base.1.3

@@ -127,3 +127,6 @@ walk_at-walk-requires t c =
 pub walk_at-returns : goal.walk_at-returns
 walk_at-returns t c q at =
     c.walk.ensures q (family_below c.args.cells.now q c.child-below.result ((rw c.families-families.ensures.families at c.child-below.ensures.base) q at) c.if-below-eq0.false)
+
+pub walk-overflow_sub-more : goal.walk-overflow_sub-more
+walk-overflow_sub-more t c = some_more c.args.cells.now c.requires.held c.requires.base.0 c.args.base c.args.more c.requires.base.1.0 c.requires.base.1.2

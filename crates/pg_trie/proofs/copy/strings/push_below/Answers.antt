@@ -1,7 +1,9 @@
-use Rattle.std.proofs.Common.{◌≡◌, ℕ, ◌+◌, List, [], ◌∷◌, ◌++◌, Some, slice_get, sym, ap, ◌∙◌, subst, lit<}
+use Rattle.std.proofs.Common.{◌≡◌, ℕ, ◌+◌, List, [], ◌∷◌, ◌++◌, Some, slice_get, sym, ap, ◌∙◌, subst, lit<, ◌<◌, None}
 use Rattle.pg_cells.specs.Inside.linked.Walks.{EndsBefore}
 use Rattle.pg_trie.specs.Inside.Strings.{PutsBelow}
-use Rattle.pg_trie.proofs.TrieLaws.Listing.{puts_nothing, get_index, on_ok}
+use Rattle.pg_trie.proofs.TrieLaws.Listing.{puts_nothing, get_index, on_ok, get_there}
+use Rattle.pg_types.specs.Inside.Signs.{SignsWithin}
+use Rattle.pg_types.specs.Inside.Placing.{cell_of}
 use Rattle.pg_trie.proofs.copy.strings.push_below.Goals as goal
 
 pub returns-in-0 : goal.returns-in-0
@@ -30,3 +32,40 @@ child-requires c = (lit< tt, (c.signs-2.result.now, sym c.in-Some.ensures))
 
 pub first_sign-requires : goal.first_sign-requires
 first_sign-requires c = (lit< tt, (c.signs-2.result.now, sym c.in-Some.ensures))
+
+pub index-requires : goal.index-requires
+index-requires c = subst (λ (k : ℕ). c.args.i < k) (sym c.args.strings.now.ok.0) c.requires.inside
+
+pub new-prefix-requires : goal.new-prefix-requires
+new-prefix-requires c = c.signs.ensures.few
+
+pub find_cell-requires-clause-held : goal.find_cell-requires-clause-held
+find_cell-requires-clause-held c = c.requires.held
+
+pub find_cell-requires-clause-signs : goal.find_cell-requires-clause-signs
+find_cell-requires-clause-signs c =
+    let k = get_there c.args.strings.now.items c.args.i c.requires.inside in
+    subst (SignsWithin c.args.cells.now.signs)
+    (sym
+    (c.signs-2.ensures.value ∙ ap (λ (x : List ℕ × ℕ). x.0) c.new-prefix.ensures ∙ c.signs.ensures.value
+    ∙ ap (λ (x : List ℕ × ℕ). x.0) (c.index.ensures ∙ get_index c.args.strings.now.items c.args.i k.0 c.index.result.now k.1)))
+    (c.requires.sound k.0 k.1).known
+
+pub returns-in_default : goal.returns-in_default
+returns-in_default c k at =
+    let same : c.signs-2.result.now ≡ k.0 =
+    c.signs-2.ensures.value ∙ ap (λ (x : List ℕ × ℕ). x.0) c.new-prefix.ensures ∙ c.signs.ensures.value
+    ∙ ap (λ (x : List ℕ × ℕ). x.0) (c.index.ensures ∙ get_index c.args.strings.now.items c.args.i k c.index.result.now at) in
+    let celled = (c.requires.sound k at).celled in
+    absurd (let wrong : None ≡ Some celled.0 = c.in_default.ensures ∙ ap (cell_of c.args.cells.now.families) same ∙ celled.1 in cc)
+
+pub push_family-requires-clause-first : goal.push_family-requires-clause-first
+push_family-requires-clause-first c =
+    c.first_sign.ensures c.signs-in_default-child.result.now
+    (ap (cell_of c.args.cells.now.families) (c.signs-in_default-child.ensures.value ∙ sym c.signs-2.ensures.value) ∙ sym c.in-Some.ensures)
+
+pub push_family-requires-clause-short : goal.push_family-requires-clause-short
+push_family-requires-clause-short c = c.requires.short
+
+pub push_family-requires-clause-held : goal.push_family-requires-clause-held
+push_family-requires-clause-held c = c.requires.held

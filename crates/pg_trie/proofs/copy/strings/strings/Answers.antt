@@ -1,5 +1,5 @@
 use Rattle.std.proofs.lemmas.Result.{err_from_is_err_and}
-use Rattle.std.proofs.Common.{◌≡◌, ◌+◌, ◌<◌, [], length, subst, arith, rules}
+use Rattle.std.proofs.Common.{◌≡◌, ◌+◌, ◌<◌, [], length, subst, ◌∙◌, arith, rules}
 use Rattle.pg_cells.proofs.LinkLaws.{root_first}
 use Rattle.pg_trie.specs.Inside.Strings.{AreStringsTo, PutsBelow}
 use Rattle.pg_trie.proofs.TrieLaws.Listing.{strings_start, strings_step, get_there}
@@ -38,3 +38,25 @@ returns-in_err-push_family c = let err = err_from_is_err_and c.from_residual.res
 
 pub returns-in_err-push_below : goal.returns-in_err-push_below
 returns-in_err-push_below c = let err = err_from_is_err_and c.from_residual-in_err-push_below.result c.from_residual-in_err-push_below.ensures.1 in rw err.1 tt
+
+pub push_family-requires-clause-short : goal.push_family-requires-clause-short
+push_family-requires-clause-short c = c.requires.short
+
+pub push_family-requires-clause-held : goal.push_family-requires-clause-held
+push_family-requires-clause-held c = c.requires.held
+
+pub returns-then-i-len : goal.returns-then-i-len
+returns-then-i-len c =
+    subst (AreStringsTo c.args.cells.now c.loop-i.strings.items) (c.if-i-len.true ∙ c.len.ensures ∙ c.loop-i.strings.ok.0) c.loop-i.invariant.strings
+
+pub push_below-requires-clause-inside : goal.push_below-requires-clause-inside
+push_below-requires-clause-inside c = omega (arith, c.len.ensures, c.loop-i.strings.ok.0)
+
+pub push_below-requires-clause-held : goal.push_below-requires-clause-held
+push_below-requires-clause-held c = c.requires.held
+
+pub push_below-requires-clause-short : goal.push_below-requires-clause-short
+push_below-requires-clause-short c = c.requires.short
+
+pub push_below-requires-clause-signs : goal.push_below-requires-clause-signs
+push_below-requires-clause-signs c = c.requires.signs

@@ -1,11 +1,17 @@
-use Rattle.std.proofs.Common.{◌≡◌, ℕ, List, [], ◌∷◌, ◌++◌, Some, None, sym, subst, ◌∙◌, arith, rules, lit<}
+use Rattle.std.proofs.Common.{◌≡◌, ℕ, List, [], ◌∷◌, ◌++◌, Some, None, sym, subst, ◌∙◌, arith, rules, lit<, ◌+◌, ◌≤◌, length}
 use Rattle.std.proofs.lemmas.List.{length_push}
 use Rattle.pg_types.specs.Inside.Placing.{cell_of}
 use Rattle.pg_cells.specs.Inside.linked.Members.{IsBefore}
 use Rattle.pg_cells.proofs.LinkLaws.{goes_cell}
 use Rattle.pg_cells.proofs.Walking.{sign_falls}
 use Rattle.pg_trie.proofs.DeletingLaws.Pruning.{not_below, above_longer, to_start, to_step, next_goes, before_first, before_stays, next_before}
+use Rattle.pg_types.specs.declared.limits.TheConstants.{PATTERN_SIGNS_MAX}
+use Rattle.pg_trie.specs.Inside.PrunedFamilies.{PrunesTo}
 use Rattle.pg_trie.proofs.deleting.prune.+prune_below.Goals as goal
+
+-- where a longer string is short enough, there are more signs
+some_more : (p : List ℕ) (s more : ℕ) → length (p ++ s ∷ []) ≤ PATTERN_SIGNS_MAX → PATTERN_SIGNS_MAX ≤ length p + more → 1 ≤ more
+some_more p s more few room = omega (arith, length_push p s)
 
 pub loop-s-init : goal.loop-s-init
 loop-s-init t c = record {
@@ -117,3 +123,16 @@ loop-s-preserved t c =
 
 pub first_sign-s-requires : goal.first_sign-s-requires
 first_sign-s-requires t c = (lit< tt, (c.requires.cell.0, c.requires.cell.1.0))
+
+pub overflow_sub-more : goal.overflow_sub-more
+overflow_sub-more t c =
+    let p = c.requires.cell.0 in
+    let at = c.requires.cell.1.0 in
+    let to = c.loop-s.invariant.to p at in
+    let now_at : cell_of c.loop-s.cells.families p ≡ Some c.args.cell = (to.elsewhere p (not_below p)).1 ∙ at in
+    let there : cell_of c.loop-s.cells.families (p ++ c.loop-s.s ∷ []) ≡ Some c.in-Some.below = sym (c.in-Some.ensures.cell p now_at) in
+    let v = to.held.valued (p ++ c.loop-s.s ∷ []) c.in-Some.below there in
+    some_more p c.loop-s.s c.args.more (c.requires.short (p ++ c.loop-s.s ∷ []) v.0 (to.less (p ++ c.loop-s.s ∷ []) v.0 v.1)) c.requires.cell.1.1
+
+pub returns : goal.returns
+returns t c q e = subst (PrunesTo c.args.cells.now c.loop-s.cells q) c.loop-s-test.false (c.loop-s.invariant.to q e)

@@ -1,4 +1,6 @@
-use Rattle.std.proofs.Common.{length, sym, ap, subst, arith}
+use Rattle.std.proofs.Common.{ℕ, ◌≤◌, length, refl, sym, ap, subst, arith}
+use Rattle.std.proofs.lemmas.Result.{err_from_is_err_and}
+use Rattle.pg_types.specs.declared.limits.TheConstants.{SIGNS_MAX}
 use Rattle.pg_trie.specs.Inside.IsPatternTrie.{IsPatternTrie}
 use Rattle.pg_trie.specs.Inside.Maps.{Maps}
 use Rattle.pg_trie.proofs.DeletingLaws.Ended.{short, level_end}
@@ -31,3 +33,27 @@ returns c =
     c.in_ok-heads.heads.items c.deref.result.now c.in_ok-heads.ensures c.deref.ensures.value c.renew.new.cells c.renew.ensures
     c.prune.new.cells c.prune.ensures c.args.self.now c.self.view_is c.new.result c.new.ensures in
     record { ok = end.view; tails = end.tails_are; err = tt; signs = ap (λ (m : Maps). m.signs) end.view }
+
+pub fresh_heads-requires-clause-empty : goal.fresh_heads-requires-clause-empty
+fresh_heads-requires-clause-empty c = ap length c.new-fresh.ensures.empty
+
+pub renew-requires-clause-held : goal.renew-requires-clause-held
+renew-requires-clause-held c = c.self.invariant.held
+
+pub prune-requires-clause-held : goal.prune-requires-clause-held
+prune-requires-clause-held c = c.renew.ensures.held
+
+pub prune-requires-clause-signs : goal.prune-requires-clause-signs
+prune-requires-clause-signs c = subst (λ (n : ℕ). n ≤ SIGNS_MAX) (sym c.renew.ensures.signs) c.self.invariant.signs
+
+pub returns-in_err-heads-clause-ok : goal.returns-in_err-heads-clause-ok
+returns-in_err-heads-clause-ok c = let err = err_from_is_err_and c.from_residual.result c.from_residual.ensures.1 in rw err.1 tt
+
+pub returns-in_err-heads-clause-tails : goal.returns-in_err-heads-clause-tails
+returns-in_err-heads-clause-tails c = let err = err_from_is_err_and c.from_residual.result c.from_residual.ensures.1 in rw err.1 tt
+
+pub returns-in_err-heads-clause-err : goal.returns-in_err-heads-clause-err
+returns-in_err-heads-clause-err c = let err = err_from_is_err_and c.from_residual.result c.from_residual.ensures.1 in rw err.1 refl
+
+pub returns-in_err-heads-clause-signs : goal.returns-in_err-heads-clause-signs
+returns-in_err-heads-clause-signs c = refl

@@ -1,4 +1,4 @@
-use Rattle.std.proofs.Common.{◌≡◌, ◌+◌, ◌^◌, ◌<◌, ◌≤◌, set, ◌++◌, [], ◌∷◌, length, ap, sym, subst, ◌∙◌, arith}
+use Rattle.std.proofs.Common.{◌≡◌, ◌+◌, ◌^◌, ◌<◌, ◌≤◌, set, ◌++◌, [], ◌∷◌, length, ap, sym, subst, ◌∙◌, arith, ℕ, length-append}
 use Rattle.std.proofs.lemmas.Result.{err_from_is_err_and}
 use Rattle.std.specs.FinMap.{find, put}
 use Rattle.pg_types.specs.Inside.Signs.{SignsWithin}
@@ -146,3 +146,22 @@ returns-in-Err-clause-ok c = tt
 
 pub returns-in-Err-clause-number : goal.returns-in-Err-clause-number
 returns-in-Err-clause-number c = tt
+
+pub overflow_add-from : goal.overflow_add-from
+overflow_add-from c = omega (arith, c.self.invariant.within, c.from.ensures)
+
+pub pow-entries-requires : goal.pow-entries-requires
+pow-entries-requires c =
+    let all = ap (λ k. (k + 1) ^ c.from-2.result) c.from.ensures ∙ ap (λ k. (c.self.inside.signs + 1) ^ k) (c.from-2.ensures ∙ c.window_len.ensures) in
+    omega (arith, all, c.self.invariant.entries)
+
+pub index_mut-requires : goal.index_mut-requires
+index_mut-requires c = subst (λ (k : ℕ). c.index_of-index.result < k) (sym c.make_room.new.numbers.ok.0) c.in_ok-make_room.ensures.room
+
+pub overflow_sub-result : goal.overflow_sub-result
+overflow_sub-result c = omega (arith, c.in-Ok.ensures.entry)
+
+pub pop-requires : goal.pop-requires
+pop-requires c =
+    let size = length-append c.self.inside.windows.items (c.args.window.now ∷ []) in
+    subst (λ (l : WindowRow). 0 < length l.items) (sym c.in_ok-push.ensures.ok) (omega (arith, size))
