@@ -1,6 +1,6 @@
-use Rattle.std.proofs.Common.{◌≡◌, ◌+◌, ◌∷◌, [], ◌++◌, ℕ, List, take, get_or, sym, ap, ◌∙◌, append_assoc}
+use Rattle.std.proofs.Common.{◌≡◌, ◌+◌, ◌∷◌, [], ◌++◌, ℕ, List, take, get_or, sym, ap, ◌∙◌, append_assoc, arith}
 use Rattle.std.specs.List.{flat_map}
-use Rattle.std.proofs.lemmas.List.{take_more, flat_map_more}
+use Rattle.std.proofs.lemmas.List.{append-nil, take_more, take_all, flat_map_more}
 use Rattle.pg_table.specs.declared.parts.cell.Cell.{Cell}
 use Rattle.pg_table.specs.Inside.text.Cells.{unused_cell}
 use Rattle.pg_table.specs.Numbers.{u16_bytes, u32_bytes}
@@ -26,3 +26,9 @@ loop-cell-preserved c =
     let cells = c.args.cells.now in
     more c.args.text.now.items c.loop-cell.text.items c.push_u16.new.text.items c.push_u32.new.text.items c.push_u32-in-loop-cell.new.text.items cells i (get_or cells i unused_cell)
     c.loop-cell.invariant (take_more cells i unused_cell c.loop-cell-test.true) c.in_ok-push_u16.ensures c.in_ok-push_u32.ensures c.in_ok-push_u32-2.ensures
+
+pub loop-cell-init : goal.loop-cell-init
+loop-cell-init c = sym (append-nil c.args.text.now.items)
+
+pub returns : goal.returns
+returns c = c.loop-cell.invariant ∙ ap (λ (l : List Cell). c.args.text.now.items ++ flat_map cell_bytes l) (take_all c.loop-cell.cell-index c.args.cells.now c.loop-cell-test.false)

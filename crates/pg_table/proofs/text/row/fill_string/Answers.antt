@@ -12,6 +12,10 @@ use Rattle.pg_table.proofs.text.row.fill_string.Goals as goal
 pub loop-s-init : goal.loop-s-init
 loop-s-init c = record { at = refl; fills = λ heads has row. fills_none c.args.cells.now c.requires.held heads has c.args.signs.now c.args.row.now row }
 
+pub step-requires : goal.step-requires
+step-requires c =
+    (omega arith, ((take c.loop-s.s-index c.args.signs.now, c.loop-s.invariant.at), c.requires.signs c.loop-s.s-index 0 c.loop-s-test.true))
+
 pub returns : goal.returns
 returns c heads has row =
     let end : c.loop-s.s-index ≡ length c.args.signs.now = omega arith in
