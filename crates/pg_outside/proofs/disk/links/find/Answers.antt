@@ -1,28 +1,15 @@
-use Rattle.std.proofs.Common.{◌≡◌, ◌∙◌, List, ℕ, Option, refl, subst, string_bytes, arith}
-use Rattle.pg_outside.specs.Inside.disk.Disks.{DiskHistory, HoldsNow, IsKindOf, IsFollowedBy}
-use Rattle.pg_outside.specs.Inside.disk.NewNames.{IsLinkedName}
-use Rattle.pg_outside.specs.declared.disk.system.NameKind.{NameKind}
+use Rattle.std.proofs.Common.{◌∙◌, refl, string_bytes, arith}
 use Rattle.pg_outside.proofs.Runs.{keeps_both, keeps_self}
 use Rattle.pg_outside.proofs.Causes.{rose_since, failed_on, memory_on}
 use Rattle.pg_outside.proofs.Links.{not_followed, reached_on, stands_none, stands_some, is_deep}
 use Rattle.std.proofs.lemmas.Result.{IfOk-from_err}
 use Rattle.pg_outside.proofs.disk.links.find.Goals as goal
 
--- what is known of a name and of what it is, is known of the same name and kind
-kind_as : (told : Option DiskHistory) (a b : List ℕ) (k l : NameKind) → a ≡ b → k ≡ l → HoldsNow told (IsKindOf a k) → HoldsNow told (IsKindOf b l)
-kind_as told a b k l same is holds = subst (λ (l : NameKind). HoldsNow told (IsKindOf b l)) is (subst (λ (n : List ℕ). HoldsNow told (IsKindOf n k)) same holds)
-
-text_as : (told : Option DiskHistory) (a b text : List ℕ) → a ≡ b → HoldsNow told (IsFollowedBy a text) → HoldsNow told (IsFollowedBy b text)
-text_as told a b text same holds = subst (λ (n : List ℕ). HoldsNow told (IsFollowedBy n text)) same holds
-
-joined_as : (a b s t joined : List ℕ) → a ≡ b → s ≡ t → IsLinkedName a s joined → IsLinkedName b t joined
-joined_as a b s t joined same is holds = subst (λ (u : List ℕ). IsLinkedName b u joined) is (subst (λ (n : List ℕ). IsLinkedName n s joined) same holds)
-
 pub loop-preserved : goal.loop-preserved
 loop-preserved g c =
-    let kind = kind_as _ _ _ _ _ c.as_str.ensures.value c.in-Link.is c.in_ok-look.ensures.kind in
-    let text = text_as _ _ _ _ c.as_str-in-Link.ensures.value c.in_ok-text-in-Link.ensures.text in
-    let joined = joined_as _ _ _ _ _ c.as_str-in-Link-2.ensures.value c.as_str-in-Link-3.ensures.value c.in_ok-real-in-Link.ensures in
+    let kind = rw (c.as_str.ensures.value, c.in-Link.is) at c.in_ok-look.ensures.kind in
+    let text = rw c.as_str-in-Link.ensures.value at c.in_ok-text-in-Link.ensures.text in
+    let joined = rw (c.as_str-in-Link-2.ensures.value, c.as_str-in-Link-3.ensures.value) at c.in_ok-real-in-Link.ensures in
     record {
       same = keeps_both _ _ _ (keeps_both _ _ _ c.loop.invariant.same c.look.ensures.same) c.read_link.ensures.same;
       reached = reached_on _ (string_bytes c.loop.real) (string_bytes c.in_ok-text-in-Link.text) _ c.loop.counter _ _ _ _ c.loop.invariant.reached
@@ -40,7 +27,7 @@ loop-init g c = record {
 pub returns-in-Missing : goal.returns-in-Missing
 returns-in-Missing g c = record {
   same = keeps_both _ _ _ c.loop.invariant.same c.look.ensures.same;
-  found = let kind = kind_as _ _ _ _ _ c.as_str.ensures.value c.in-Missing.is c.in_ok-look.ensures.kind in (
+  found = let kind = rw (c.as_str.ensures.value, c.in-Missing.is) at c.in_ok-look.ensures.kind in (
     c.in_ok-look.ensures.ok_failures ∙ c.loop.invariant.failures,
     stands_none _ _ _ _ _ _ _ c.loop.invariant.reached c.look.ensures.same kind c.make_real_name.ensures.name c.make_real_name.ensures.file,
   );
@@ -50,7 +37,7 @@ returns-in-Missing g c = record {
 pub returns-in-File : goal.returns-in-File
 returns-in-File g c = record {
   same = keeps_both _ _ _ c.loop.invariant.same c.look.ensures.same;
-  found = let kind = kind_as _ _ _ _ _ c.as_str.ensures.value c.in-File.is c.in_ok-look.ensures.kind in (
+  found = let kind = rw (c.as_str.ensures.value, c.in-File.is) at c.in_ok-look.ensures.kind in (
     c.in_ok-look.ensures.ok_failures ∙ c.loop.invariant.failures,
     stands_some _ _ _ c.in-File.id _ _ _ _ c.loop.invariant.reached c.look.ensures.same
         kind c.make_real_name-in-File.ensures.name c.make_real_name-in-File.ensures.file,
