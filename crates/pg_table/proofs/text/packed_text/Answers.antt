@@ -9,6 +9,27 @@ returns-then-is_too_long-clause-too_long c is =
     let long = c.is_too_long.ensures.0 c.if-is_too_long.true in
     omega (arith, size, long)
 
+pub table_cells-requires-clause-cells : goal.table_cells-requires-clause-cells
+table_cells-requires-clause-cells c =
+    let size = text_size c.args.signs c.args.patterns.now c.args.packed.now.cells c.args.packed.now.outputs c.requires.entered.sound c.requires.entered in
+    let short = fits c.args.signs c.args.patterns.now c.args.packed.now.cells c.args.packed.now.outputs c.requires.entered.sound c.requires.entered
+    c.is_too_long.result c.is_too_long.ensures.1 c.if-is_too_long.false in
+    omega (arith, size, short)
+
+pub table_cells-requires-clause-records : goal.table_cells-requires-clause-records
+table_cells-requires-clause-records c =
+    let size = text_size c.args.signs c.args.patterns.now c.args.packed.now.cells c.args.packed.now.outputs c.requires.entered.sound c.requires.entered in
+    let short = fits c.args.signs c.args.patterns.now c.args.packed.now.cells c.args.packed.now.outputs c.requires.entered.sound c.requires.entered
+    c.is_too_long.result c.is_too_long.ensures.1 c.if-is_too_long.false in
+    omega (arith, size, short)
+
+pub file_of-requires-clause-records : goal.file_of-requires-clause-records
+file_of-requires-clause-records c =
+    let size = text_size c.args.signs c.args.patterns.now c.args.packed.now.cells c.args.packed.now.outputs c.requires.entered.sound c.requires.entered in
+    let short = fits c.args.signs c.args.patterns.now c.args.packed.now.cells c.args.packed.now.outputs c.requires.entered.sound c.requires.entered
+    c.is_too_long.result c.is_too_long.ensures.1 c.if-is_too_long.false in
+    omega (arith, size, short)
+
 pub file_of-requires-clause-cells : goal.file_of-requires-clause-cells
 file_of-requires-clause-cells c =
     let size = text_size c.args.signs c.args.patterns.now c.args.packed.now.cells c.args.packed.now.outputs c.requires.entered.sound c.requires.entered in

@@ -1,6 +1,6 @@
 use Rattle.std.proofs.Common.{◌≡◌, ◌+◌, ◌-◌, ◌∷◌, [], ◌++◌, ℕ, List, take, slice_get, Some, Vec, Global, refl, sym, ap, ◌∙◌, arith, append_assoc}
 use Rattle.std.specs.List.{flat_map}
-use Rattle.std.proofs.lemmas.List.{take_more, flat_map_more}
+use Rattle.std.proofs.lemmas.List.{take_more, take_all, flat_map_more}
 use Rattle.std.proofs.lemmas.Option.{get_or_from_slice_get, slice_get_within}
 use Rattle.pg_outputs.specs.declared.records.Record.{Record}
 use Rattle.pg_table.specs.Numbers.{u32_bytes}
@@ -36,3 +36,10 @@ loop-head-preserved c = elim c.match-first.branch [
       (ap (λ (t : Vec ℕ Global). t.items) w.text-is ∙ pushed)
   | in_default w ↦ absurd (omega (arith, w.in_default.ensures.none.0 refl, c.loop-head.auto.head))
 ]
+
+pub overflow_cast-next : goal.overflow_cast-next
+overflow_cast-next c = omega (arith, c.in-Some.ensures.back, c.len-head-end.ensures.len)
+
+pub returns : goal.returns
+returns c = c.loop-head.invariant
+    ∙ ap (λ (l : List Record). c.args.text.now.items ++ flat_map record_bytes l) (take_all (c.loop-head.head - 1) c.args.outputs.now (omega (arith, c.len-head-end.ensures.len)))

@@ -1,7 +1,9 @@
 use Rattle.std.proofs.Common.{◌≡◌, ℕ, ◌+◌, ◌-◌, ◌∷◌, List, map, refl, sym, ap, subst, ◌∙◌, arith}
 use Rattle.pg_outputs.proofs.ListLaws.{list_of-zero}
+use Rattle.pg_outputs.specs.Inside.Heads.{Grows}
+use Rattle.pg_outputs.specs.declared.records.Record.{Record}
 use Rattle.pg_table.specs.Inside.text.PackedTrie.{dot_values}
-use Rattle.pg_table.specs.Inside.text.Sharing.{Shares, value_and_dot, with_ends}
+use Rattle.pg_table.specs.Inside.text.Sharing.{Lists, Shares, value_and_dot, with_ends}
 use Rattle.pg_table.proofs.text.Recorded.{ends_more}
 use Rattle.pg_table.proofs.text.Sharing.{shares_more, pairs_none, pairs_more}
 use Rattle.pg_table.proofs.text.entering.share.Goals as goal
@@ -44,3 +46,16 @@ loop-i-preserved c =
         same = λ h le. c.in_ok-head.ensures.grows.same h (omega (arith, c.loop-i.invariant.grows.longer)) ∙ c.loop-i.invariant.grows.same h le;
       };
     }
+
+pub returns-in_err-head-clause-grows : goal.returns-in_err-head-clause-grows
+returns-in_err-head-clause-grows c = subst (λ (r : List Record). Grows c.args.outputs.now r) (sym c.in_err-head.ensures.err) c.loop-i.invariant.grows
+
+pub returns-clause-shares : goal.returns-clause-shares
+returns-clause-shares c =
+    let same : c.loop-i.i ≡ c.args.at = omega (arith, c.loop-i.invariant.low) in
+    subst (λ (n : ℕ). (lists : Lists) → Shares c.args.outputs.now lists → Shares c.loop-i.outputs (with_ends lists (dot_values c.args.patterns.now n c.args.end))) same c.loop-i.invariant.shares
+
+pub returns-clause-list : goal.returns-clause-list
+returns-clause-list c =
+    let same : c.loop-i.i ≡ c.args.at = omega (arith, c.loop-i.invariant.low) in
+    c.loop-i.invariant.list ∙ ap (λ (n : ℕ). map value_and_dot (dot_values c.args.patterns.now n c.args.end)) same

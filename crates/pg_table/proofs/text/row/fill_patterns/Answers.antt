@@ -40,3 +40,12 @@ pub returns : goal.returns
 returns c =
     row_last c.args.packed.now.cells.signs c.args.patterns.now c.args.packed.now.cells c.args.packed.now.outputs c.patterns.row c.requires.entered c.patterns.invariant.row c.patterns.invariant.signs
     (λ j k e low at. c.patterns.invariant.fronts j k e (omega (arith, c.len-i-end.ensures.value)) at)
+
+pub fill_string-requires-clause-held : goal.fill_string-requires-clause-held
+fill_string-requires-clause-held c = c.requires.entered.packed.held
+
+pub fill_string-requires-clause-size : goal.fill_string-requires-clause-size
+fill_string-requires-clause-size c = c.patterns.invariant.row.size
+
+pub patterns-init : goal.patterns-init
+patterns-init c = record { row = c.requires.signs.row; signs = c.requires.signs.each; fronts = λ j k e low. absurd (omega arith) }

@@ -1,12 +1,30 @@
-use Rattle.std.proofs.Common.{◌≡◌, ◌<◌, ◌≤◌, ◌+◌, ℕ, List, [], ◌∷◌, ◌++◌, nat_eq, Bool, true, false, cond, length, take, get_or, None, Some, sym, refl, ap, ◌∙◌, arith}
+use Rattle.std.proofs.Common.{◌≡◌, ◌<◌, ◌≤◌, ◌+◌, ℕ, List, [], ◌∷◌, ◌++◌, nat_eq, Bool, true, false, cond, length, take, get_or, None, Some, sym, refl, ap, subst, ◌∙◌, arith}
 use Rattle.std.proofs.lemmas.Bool.{eqb-true}
 use Rattle.std.proofs.lemmas.List.{take_more}
 use Rattle.pg_types.specs.Placement.{top}
 use Rattle.pg_types.specs.Inside.Placing.{cell_of}
 use Rattle.pg_table.specs.declared.parts.cell.Cell.{Cell}
 use Rattle.pg_table.proofs.text.TableCells.{cell_within, base_within}
-use Rattle.pg_table.proofs.text.Filling.{cell_told, fills_more, fills_rest}
+use Rattle.pg_table.proofs.text.Filling.{cell_told, fills_none, fills_more, fills_rest}
+use Rattle.pg_table.specs.Inside.text.Rows.{Fills}
 use Rattle.pg_table.proofs.text.row.fill_string.Goals as goal
+
+pub loop-s-init : goal.loop-s-init
+loop-s-init c = record { at = refl; fills = λ heads has row. fills_none c.args.cells.now c.requires.held heads has c.args.signs.now c.args.row.now row }
+
+pub step-requires : goal.step-requires
+step-requires c =
+    (omega arith, ((take c.loop-s.s-index c.args.signs.now, c.loop-s.invariant.at), c.requires.signs c.loop-s.s-index 0 c.loop-s-test.true))
+
+pub returns : goal.returns
+returns c heads has row =
+    let end : c.loop-s.s-index ≡ length c.args.signs.now = omega arith in
+    subst (λ (n : ℕ). Fills c.args.cells.now heads c.args.signs.now n c.args.row.now c.loop-s.row) end (c.loop-s.invariant.fills heads has row)
+
+pub overflow_cast-row-in-loop-s : goal.overflow_cast-row-in-loop-s
+overflow_cast-row-in-loop-s c =
+    let q : List ℕ = take c.loop-s.s-index c.args.signs.now ++ get_or c.args.signs.now c.loop-s.s-index 0 ∷ [] in
+    omega (arith, c.requires.values q c.value.result (c.value.ensures q (sym (c.in-Some.ensures.cell (take c.loop-s.s-index c.args.signs.now) c.loop-s.invariant.at))))
 
 pub returns-in_default : goal.returns-in_default
 returns-in_default c heads has row =

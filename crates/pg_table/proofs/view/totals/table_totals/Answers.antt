@@ -33,3 +33,6 @@ words-preserved c =
           (ap (λ (ws : List Word). with_marks c.words.sums (flat_map (table_marks minima b) ws)) (sym place) ∙ c.words.invariant.sums);
       room_for = omega (arith, letters_left c.args.dictionary.now c.words.i w c.word-w.ensures.lent, c.words.invariant.room_for, c.add_marks-sums.ensures.took);
     }
+
+pub returns-clause-small : goal.returns-clause-small
+returns-clause-small c = omega (arith, c.words.invariant.room_for)
