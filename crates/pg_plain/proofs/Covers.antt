@@ -150,7 +150,8 @@ pub covers_end : (P : Patterns) (H : Hopeless) (level len dot : ℕ) (w : List �
 covers_end P H level len dot w x y z long start first second p inside fit =
     let room : p < WORD_LETTERS_MAX + 2 = omega arith in
     let law : (k : List ℕ × ℕ) → applies (window w p len dot) dot k ≡ (applies w p k && is_within len dot (length k.0) k.1) = λ k. cover_law w p len dot k fit in
-    let patterns : bit (list_any (λ e. nat_le level e.1 && applies (window w p len dot) dot e.0) P) ≡ greatest_by (λ e. bit (nat_le level e.1 && is_within len dot (length e.0.0) e.0.1)) (applies w p) P =
+    let patterns : bit (list_any (λ e. nat_le level e.1 && applies (window w p len dot) dot e.0) P)
+    ≡ greatest_by (λ e. bit (nat_le level e.1 && is_within len dot (length e.0.0) e.0.1)) (applies w p) P =
     any_bit (λ (e : (List ℕ × ℕ) × ℕ). nat_le level e.1 && applies (window w p len dot) dot e.0) (λ (e : (List ℕ × ℕ) × ℕ). nat_le level e.1 && is_within len dot (length e.0.0) e.0.1) (applies w p) P
     (λ e. ap (λ b. nat_le level e.1 && b) (law e.0) ∙ swap (nat_le level e.1) (applies w p e.0) (is_within len dot (length e.0.0) e.0.1)) in
     let hopeless : bit (list_any (λ e. applies (window w p len dot) dot e.0) H) ≡ greatest_by (λ e. bit (is_within len dot (length e.0.0) e.0.1)) (applies w p) H =

@@ -37,5 +37,7 @@ inputs_are seed count t p S found is_t is_p is_S is =
 -- the words are accepted, so there is a selection
 pub sample_given : (seed count : ℕ) → count ≤ COUNT_MAX → (i : Inputs) × (sample_inputs seed count ≡ Some i)
 sample_given seed count few =
-    let accepted = sample_accepted seed count default_keeps few in
-    (record { table = default_alphabet; params = sample_parameters; start = []; dictionary = accepted.0 }, inputs_are seed count default_alphabet sample_parameters [] accepted.0 refl refl refl accepted.1)
+    let accepted = sample_accepted seed count default_keeps few in (
+      record { table = default_alphabet; params = sample_parameters; start = []; dictionary = accepted.0 },
+      inputs_are seed count default_alphabet sample_parameters [] accepted.0 refl refl refl accepted.1,
+    )

@@ -8,7 +8,8 @@ pub returns-in-len1-up : goal.returns-in-len1-up
 returns-in-len1-up c =
     let words = c.args.words.now in
     let behind = take (length words - 1) (drop 1 words) in
-    let parts = one_argument words c.as_str.result.now behind c.in-len1-up.len_at_least (c.name-item.result, c.name-item.is, c.as_str.ensures.value) (take_all _ _ (omega (arith, length-drop 1 words))) in
+    let parts = one_argument words c.as_str.result.now behind c.in-len1-up.len_at_least (c.name-item.result, c.name-item.is, c.as_str.ensures.value)
+    (take_all _ _ (omega (arith, length-drop 1 words))) in
     record {
       value = c.command_of.ensures.value ∙ ap request_of (sym parts);
       within = c.command_of.ensures.within;

@@ -44,10 +44,11 @@ returns-in_default-clause-ok g c =
     subst (λ (x : Pass). HasCovers x m.patterns m.hopeless w.signs c.args.found.now.covers) c.requires.pass c.requires.read.covers in
     let found : c.counts_in_pass.result ≡ counted_at pass m.patterns m.hopeless w p =
     c.counts_in_pass.ensures
-    ∙ found_counts (fits w.signs p pass.len pass.dot) (slice_index_or c.args.found.now.covers p false) (is_covered pass.level m.patterns m.hopeless (window w.signs p pass.len pass.dot) pass.dot) c.args.good
-    _ (covers p c.requires.within) c.requires.good in
+    ∙ found_counts (fits w.signs p pass.len pass.dot) (slice_index_or c.args.found.now.covers p false) (is_covered pass.level m.patterns m.hopeless (window w.signs p pass.len pass.dot) pass.dot)
+    c.args.good _ (covers p c.requires.within) c.requires.good in
     let none : counted_at pass m.patterns m.hopeless w p ≡ None = sym found ∙ c.in_default.is in
-    ap (λ (o : Option Bool). meaning_after_counting m (option_map_or (λ (good : Bool). record { window = window w.signs p pass.len pass.dot; good = good; weight = position_weight w p } ∷ []) o [])) (sym none)
+    ap (λ (o : Option Bool). meaning_after_counting m
+    (option_map_or (λ (good : Bool). record { window = window w.signs p pass.len pass.dot; good = good; weight = position_weight w p } ∷ []) o [])) (sym none)
     ∙ ap (λ (x : Pass). meaning_after_counting m (counted_positions_at x m.patterns m.hopeless w p)) (sym c.requires.pass)
 
 pub returns-in_default-clause-number : goal.returns-in_default-clause-number
@@ -60,8 +61,8 @@ returns-in_default-clause-number g c =
     subst (λ (x : Pass). HasCovers x m.patterns m.hopeless w.signs c.args.found.now.covers) c.requires.pass c.requires.read.covers in
     let found : c.counts_in_pass.result ≡ counted_at pass m.patterns m.hopeless w p =
     c.counts_in_pass.ensures
-    ∙ found_counts (fits w.signs p pass.len pass.dot) (slice_index_or c.args.found.now.covers p false) (is_covered pass.level m.patterns m.hopeless (window w.signs p pass.len pass.dot) pass.dot) c.args.good
-    _ (covers p c.requires.within) c.requires.good in
+    ∙ found_counts (fits w.signs p pass.len pass.dot) (slice_index_or c.args.found.now.covers p false) (is_covered pass.level m.patterns m.hopeless (window w.signs p pass.len pass.dot) pass.dot)
+    c.args.good _ (covers p c.requires.within) c.requires.good in
     let none : counted_at pass m.patterns m.hopeless w p ≡ None = sym found ∙ c.in_default.is in
     subst (λ (o : Option Bool). GetsNumber o m.windows (window w.signs p pass.len pass.dot) NO_NUMBER) (sym none) refl
 
@@ -75,8 +76,8 @@ returns-clause-number g c =
     subst (λ (x : Pass). HasCovers x m.patterns m.hopeless w.signs c.args.found.now.covers) c.requires.pass c.requires.read.covers in
     let found : c.counts_in_pass.result ≡ counted_at pass m.patterns m.hopeless w p =
     c.counts_in_pass.ensures
-    ∙ found_counts (fits w.signs p pass.len pass.dot) (slice_index_or c.args.found.now.covers p false) (is_covered pass.level m.patterns m.hopeless (window w.signs p pass.len pass.dot) pass.dot) c.args.good
-    _ (covers p c.requires.within) c.requires.good in
+    ∙ found_counts (fits w.signs p pass.len pass.dot) (slice_index_or c.args.found.now.covers p false) (is_covered pass.level m.patterns m.hopeless (window w.signs p pass.len pass.dot) pass.dot)
+    c.args.good _ (covers p c.requires.within) c.requires.good in
     let n = g.E.Engine.meaning c.count_numbered.new.self in
     let some : counted_at pass m.patterns m.hopeless w p ≡ Some c.in-Some.good = sym found ∙ c.in-Some.is in
     subst (λ (o : Option Bool). IfOk c.count_numbered.result (λ k. GetsNumber o n.windows (window w.signs p pass.len pass.dot) k)) (sym some)
@@ -92,8 +93,8 @@ returns-clause-ok g c =
     subst (λ (x : Pass). HasCovers x m.patterns m.hopeless w.signs c.args.found.now.covers) c.requires.pass c.requires.read.covers in
     let found : c.counts_in_pass.result ≡ counted_at pass m.patterns m.hopeless w p =
     c.counts_in_pass.ensures
-    ∙ found_counts (fits w.signs p pass.len pass.dot) (slice_index_or c.args.found.now.covers p false) (is_covered pass.level m.patterns m.hopeless (window w.signs p pass.len pass.dot) pass.dot) c.args.good
-    _ (covers p c.requires.within) c.requires.good in
+    ∙ found_counts (fits w.signs p pass.len pass.dot) (slice_index_or c.args.found.now.covers p false) (is_covered pass.level m.patterns m.hopeless (window w.signs p pass.len pass.dot) pass.dot)
+    c.args.good _ (covers p c.requires.within) c.requires.good in
     let n = g.E.Engine.meaning c.count_numbered.new.self in
     let some : counted_at pass m.patterns m.hopeless w p ≡ Some c.in-Some.good = sym found ∙ c.in-Some.is in
     let more : Option Bool → Meaning =

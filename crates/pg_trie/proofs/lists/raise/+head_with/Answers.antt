@@ -100,8 +100,10 @@ cons-requires-2 t c = c.in_ok-rest.ensures.inside
 pub returns-clause-list : goal.returns-clause-list
 returns-clause-list t c =
     let old = c.args.outputs.now in
-    let not_before : rank (c.args.value, c.args.dot) < rank (c.in-Some.first, c.in-Some.at) → ⊥ = λ less. absurd (let wrong : false ≡ true = sym c.if-stands_before.false ∙ c.stands_before.ensures.1 less in cc) in
-    let not_beside : rank (c.args.value, c.args.dot) ≡ rank (c.in-Some.first, c.in-Some.at) → ⊥ = λ same. absurd (let wrong : false ≡ true = sym c.if-stands_beside.false ∙ c.stands_beside.ensures.1 same in cc) in
+    let not_before : rank (c.args.value, c.args.dot) < rank (c.in-Some.first, c.in-Some.at) → ⊥ =
+    λ less. absurd (let wrong : false ≡ true = sym c.if-stands_before.false ∙ c.stands_before.ensures.1 less in cc) in
+    let not_beside : rank (c.args.value, c.args.dot) ≡ rank (c.in-Some.first, c.in-Some.at) → ⊥ =
+    λ same. absurd (let wrong : false ≡ true = sym c.if-stands_beside.false ∙ c.stands_beside.ensures.1 same in cc) in
     subst (λ (l : List (ℕ × ℕ)). IfOk c.cons-2.result (λ h. list_of c.cons-2.new.self h ≡ l))
     (ap (λ (l : List (ℕ × ℕ)). (c.in-Some.first, c.in-Some.at) ∷ l) c.in_ok-rest.ensures.list
     ∙ behind (c.args.value, c.args.dot) (c.in-Some.first, c.in-Some.at) (list_of old c.in-Some.next) not_before not_beside
