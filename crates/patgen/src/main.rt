@@ -4,7 +4,7 @@
 use pg_main::run_arguments;
 use std::process::ExitCode;
 
-/// Runs the command that its arguments name. `run_arguments` says what the status means.
+/// Runs the command that its arguments name. `status_of` of pg_main says what the status means.
 fn main(rt: HostRuntime) -> ExitCode {
     run_arguments(&rt, rt.stdout(), rt.stderr())
 }

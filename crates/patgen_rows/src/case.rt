@@ -1,4 +1,4 @@
-//! The calls of a row, from files to files.
+//! The files of a row, and what its calls make of them.
 use crate::changes::Change;
 use crate::keyword::Keyword;
 use crate::made::number_of;

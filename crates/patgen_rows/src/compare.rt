@@ -93,7 +93,7 @@ fn is_at_line(alloc: Global, bytes: &[u8], front: &[u8], line: usize) -> Result<
     }
 }
 
-/// Each file that has to hold something.
+/// Compares each file that has to hold something.
 fn compare_files(text: &mut String, case: &Case<'_>) -> io::Result<()> {
     for held in case.holds.iter() {
         if let Some(wanted) = held.bytes {
@@ -104,14 +104,14 @@ fn compare_files(text: &mut String, case: &Case<'_>) -> io::Result<()> {
     Ok(())
 }
 
-/// A file that has to begin with something.
+/// Compares a file with how it has to begin.
 fn compare_beginning(text: &mut String, case: &Case<'_>, want: &Line<'_>) -> io::Result<()> {
     let wanted = case.table.content(want);
     let came = case.files.bytes(want.name).unwrap_or(b"no file");
     push_difference(text, came.starts_with(wanted), want.name, wanted, came)
 }
 
-/// Two files that have to hold the same.
+/// Compares two files that have to hold the same.
 fn compare_pair(text: &mut String, case: &Case<'_>, names: &str) -> io::Result<()> {
     let (one, other) = names.split_once(' ').unwrap_or((names, ""));
     let wanted = case.files.bytes(other).unwrap_or(b"no file");

@@ -35,8 +35,8 @@ pub(crate) struct Call<'a> {
     pub wants: Vec<Line<'a>>,
 }
 
-/// The call that a line begins below another one. Of one with the keyword `also` the same is wanted
-/// of that.
+/// The call that a line begins below another one. Of a call with the keyword `also` the same is
+/// wanted as of the call above it.
 fn call_below<'a>(alloc: Global, line: Line<'a>, above: Option<&Call<'a>>) -> io::Result<Call<'a>> {
     let mut call = Call {
         line,

@@ -110,7 +110,7 @@ impl<'n> Trial<'n> {
         self.try_each(&mut case, row, change)
     }
 
-    /// The same from files to files.
+    /// Does the calls of a row in turn, over these files.
     fn try_each<'a>(
         &mut self,
         case: &mut Case<'a>,

@@ -4,7 +4,7 @@ use Rattle.pg_types.specs.Lines.{is_line_feed}
 use Rattle.pg_audit.specs.declared.lines.TheConstants.{SHOWN_MAX}
 
 -- what is printed of a found line: that it is missing, or its first 200 bytes, or all of it but its
--- line feed
+-- line feed; and that the file ends, where a line that is shown whole has none
 abbrev pub found_text : List ℕ → List ℕ
 found_text [] = codes " is missing"
 found_text line = let has_feed = is_line_feed (slice_index line (length line - 1)) in

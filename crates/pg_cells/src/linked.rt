@@ -164,7 +164,8 @@ impl<V: Copy, const FEW: usize> LinkedCells<V, FEW> {
     /// its number of signs. A sign joins a family in place where its cell is free. Else the family
     /// gives up its cells and is put anew by the same rule. The number of a cell of this family
     /// that was got before may then be that of another string's cell. The parent and each other
-    /// string outside of the family keep their cells.
+    /// string outside of the family keep their cells. After an error every string, cell and value
+    /// is as before.
     pub fn add(&mut self, parent: usize, s: Sign, v: V) -> Result<usize, AllocError>
         requires { CanTakeSign self.old.signs self.old.families parent s }
         ensures { AddsSign FEW self.old self.new parent s v result }

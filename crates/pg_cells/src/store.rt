@@ -79,7 +79,7 @@ impl<V: Copy> Model for Store<V> {
 }
 
 impl<V: Copy> Store<V> {
-    /// One free cell, with a bound for each of so many signs.
+    /// One free cell, and a bound for each of `signs` signs.
     pub fn new(alloc: Global, signs: u16, value: V) -> Result<Store<V>, AllocError>
         requires { signs < SIGN_COUNT }
         ensures { IfOk result (λ s. s ≡ one_free (without_links value)) }
@@ -246,7 +246,8 @@ impl<V: Copy> Store<V> {
         self.placed = 0;
     }
 
-    /// Adds free cells until there are `count`. Refused: the cells that were there are as before.
+    /// Adds free cells until there are `count`. After an error the cells that were there are as
+    /// before.
     pub fn grow(&mut self, count: usize, value: V) -> Result<(), AllocError>
         ensures extends { Extends self.old self.new }
         ensures length { OnOk result (count ≤ length self.new.signs) }
@@ -260,8 +261,8 @@ impl<V: Copy> Store<V> {
         grow_cells(&mut self.cells, count, value)
     }
 
-    /// Makes room for `more` cells from the greatest taken one on, which is counted too. Refused:
-    /// the cells that were there are as before.
+    /// Makes room for `more` cells from the greatest taken one on, which is counted too. After an
+    /// error the cells that were there are as before.
     pub fn make_room(&mut self, more: usize, value: V) -> Result<(), AllocError>
         requires { more < CELLS_END }
         ensures extends { Extends self.old self.new }
@@ -316,7 +317,8 @@ impl<V: Copy> Store<V> {
     }
 
     /// The least base from `low` on at which the sign and those of the slots may stand. `room` is a
-    /// base at which they may stand.
+    /// base at which they may stand. Where there are fewer than `FEW_SIGNS` slots, the search goes
+    /// along the free cells. Else it takes 64 bases at a time.
     pub fn find_base(&self, slots: &[Slot<Member<V>>], sign: Sign, low: usize, room: usize) -> usize
         requires low { low ≤ room }
         requires room { HasSpace self.now slots.now sign room }

@@ -90,8 +90,8 @@ fn known_prefix<V: Copy, const FEW: usize>(
 /// Gives each prefix of the string a cell, a new one with the value `blank`, and answers the cell
 /// of the string.
 ///
-/// Refused, as memory is short: a shorter prefix of the string is entered, and the rest is not. A
-/// string that has its cell already is never refused.
+/// After an error a shorter prefix of the string is entered, and the rest is not. There is no error
+/// where the string has its cell already.
 pub fn enter<V: Copy, const FEW: usize>(
     cells: &mut LinkedCells<V, FEW>,
     signs: &[Sign],

@@ -54,7 +54,7 @@ impl CellCounts {
         })
     }
 
-    /// Begins a pass with windows of so many signs: no window is counted. It takes no memory.
+    /// Begins a pass with windows of `len` signs: no window is counted. It takes no memory.
     ///
     /// Passes of one length count many of the same windows, so their cells may stay from pass to
     /// pass.

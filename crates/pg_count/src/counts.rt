@@ -50,7 +50,7 @@ impl CountTrie {
         })
     }
 
-    /// Begins a pass with windows of so many signs: no window is counted. It takes no memory.
+    /// Begins a pass with windows of `len` signs: no window is counted. It takes no memory.
     pub fn begin(&mut self, len: u8)
         requires { (1 ≤ len) × (len ≤ LENGTH_MAX) }
         ensures { self.new ≡ record self.old { len = len; counted = no_counts } }

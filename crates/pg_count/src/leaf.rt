@@ -14,8 +14,8 @@ use pg_types::Sign;
 use std::alloc::AllocError;
 
 // Moves the tally of the counted window `number` down, sign by sign, from the end of a new window's
-// way to where the two part. Gives the new window's way up to there. Refused: the tally may have
-// moved only some of the steps.
+// way to where the two part. Gives the new window's way up to there. After an error the tally may
+// have moved only some of the steps.
 fn part(
     cells: &mut CountedCells,
     windows: &WindowList,
@@ -47,7 +47,7 @@ fn part(
 }
 
 // Adds the next sign of a window at the end of its way, where no string is counted, and gives its
-// cell. Refused: nothing changes.
+// cell. After an error nothing has changed.
 fn add_next(cells: &mut CountedCells, way: Way, window: &[Sign]) -> Result<usize, AllocError>
     requires leaves { (windows : Windows) × AreLeaves cells.old windows (length window.now) }
     requires way { IsWay cells.old window.now way.at way.cell }
@@ -65,8 +65,8 @@ fn add_next(cells: &mut CountedCells, way: Way, window: &[Sign]) -> Result<usize
     Ok(cell)
 }
 
-// A cell for a window that is not counted, at the end of its way or behind it. Refused: the cells
-// may have changed, but not what is counted.
+// A cell for a window that is not counted, at the end of its way or behind it. After an error the
+// cells may have changed, but not what is counted.
 fn leaf(
     cells: &mut CountedCells,
     windows: &WindowList,
@@ -93,7 +93,7 @@ fn leaf(
 }
 
 /// Counts a window that is not counted, with the sums, and gives its number, which is the next one.
-/// Refused: the cells may have changed, but not what is counted.
+/// After an error the cells may have changed, but not what is counted.
 #[inline(never)]
 pub fn count_new(
     cells: &mut CountedCells,

@@ -58,8 +58,8 @@ pub trait WindowCounter {
         ensures { (u : List ℕ) → HasNumber (counting self.now).counted.windows u number
             → counted_sums (counting self.now).counted.counts u ≡ Some result };
 
-    /// Appends the numbers of the counted windows in the order of signs, by one walk. Refused: some
-    /// of them may have been appended.
+    /// Appends the numbers of the counted windows in the order of signs, by one walk. After an
+    /// error some of them may have been appended.
     fn order(&self, out: &mut Vec<u32>) -> Result<(), AllocError>
         ensures { OnOk result ((ns : List ℕ) × (out.new.items ≡ out.old.items ++ ns)
             × AreInOrder (counting self.now).counted.windows

@@ -50,8 +50,9 @@ impl Dictionary {
     ///
     /// A file of more than [`FILE_MAX`](pg_types::FILE_MAX) bytes is refused 403. In any other, the
     /// first refused place, from line to line and left to right, is refused 401, 402 or 404. Such a
-    /// place is a byte that begins no item, or the 101st letter of a line. The rules are patgen's,
-    /// with weights in braces and don't-care marks besides.
+    /// place is a byte that begins no item, or the 101st letter of a line. The general form is
+    /// patgen's. Weights in braces and the don't-care mark are PatGen's own. So are a TAB that ends
+    /// a word, and the rule that the last mark and the last number at a position count.
     pub fn read(alloc: Global, table: &Table, bytes: &[u8]) -> Result<Dictionary, ReadingError>
         ensures words { Gives (λ dictionary. dictionary) result (words table.now bytes.now) }
         ensures signs { IfOk result (SignsAtMost (alphabet.letters_of table.now + 1)) }
@@ -119,11 +120,11 @@ impl Dictionary {
         self.sites.as_slice()
     }
 
-    /// Whether `len` signs lie in the word of a sign, of which the first `back` stand before it.
-    /// The sign is given by its index in `all_signs`.
+    /// Whether a window of `len` signs lies in the word of the sign with the index `sign` in
+    /// `all_signs`. It begins `back` signs before that sign.
     ///
-    /// The sign with which they would begin tells how far its word goes. If it is one of a word
-    /// before, that word ends before the given sign.
+    /// The site of the window's first sign says how many signs of its word are left there. If the
+    /// window would begin in an earlier word, fewer are left than `back + 1`.
     pub fn fits_around(&self, sign: usize, back: u8, len: u8) -> bool
         requires { sign < length (all_signs self.now) }
         ensures { (n p : ℕ) (w : Word) → slice_get self.now n ≡ Some w → p < length w.signs

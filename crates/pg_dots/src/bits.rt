@@ -2,8 +2,9 @@
 ghost use Rattle.std.specs.Prelude.{◌≡◌, ◌≤◌, ◌<◌, ◌*◌, ◌-◌, ◌^◌, ◌||◌, ◌&&◌, ℕ, not, nat_le, length};
 ghost use Rattle.pg_types.specs.Inside.Bits.{has_bit};
 
-/// There is room for at least so many numbers, 32 MB. A smaller block that is freed would make the
-/// allocator of the C library keep later vectors in its heap, where they leave holes as they grow.
+/// Room is asked for at least this many numbers, 32 MB. A smaller block that is freed would make
+/// the allocator of the C library keep later vectors in its heap, where they leave holes as they
+/// grow.
 pub const ROOM_AT_LEAST: usize = 1 << 22;
 
 /// Adds to each row of bits, from the third on, the bits of the row before it. A row has `width`
@@ -22,7 +23,7 @@ pub fn take_in_before(row: &mut [u64], width: usize)
     }
 }
 
-/// Turns the bits of a row, but for those that are set in a second row of its size: they are set.
+/// Inverts the bits of a row, and then sets those that are set in `kept`, a row of the same size.
 pub fn turn_others(row: &mut [u64], kept: &[u64])
     requires size { length row.old ≡ length kept.now }
     ensures { (j : ℕ) → j < 64 * length row.old → has_bit row.new j

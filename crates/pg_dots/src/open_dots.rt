@@ -18,8 +18,8 @@ const DOTS: usize = LENGTH_MAX as usize + 1;
 /// numbered through all words, from 0, and for each dot there is a row with one bit for each of
 /// them.
 ///
-/// A dot that is greater than those reached so far is closed where the position is closed
-/// altogether. All these dots share a row.
+/// The dots that are not reached yet share one row. Where its bit is set, the position is closed
+/// altogether: at every dot.
 #[derive(Drop)]
 pub struct OpenDots {
     /// How many numbers a row has.

@@ -54,8 +54,8 @@ impl WayToCount {
     /// of the level or more. `greatest` is the greatest value of the starting patterns.
     ///
     /// Where the level before was over open positions, those of the level follow from what is left
-    /// of them. This is so since a position with care counts at just one of two levels that follow
-    /// one another. No word is hyphenated then.
+    /// of them. By its status when the level begins, a position with care counts at one of the two
+    /// levels and not at the other. No word is hyphenated then.
     pub fn begin_level<E: Engine>(
         &mut self,
         alloc: Global,
@@ -130,7 +130,8 @@ impl WayToCount {
 
     /// Takes in the choices of a pass: closes dots of open positions, and carries the totals on. A
     /// position whose value is above the level keeps its value, so its weight is left out of what
-    /// was chosen. No window is looked up. It takes no memory.
+    /// was chosen. No window is looked up. It takes no memory. Only the contract reads `engine` and
+    /// `params`.
     pub fn after_choices<E: Engine>(
         &mut self,
         engine: &E,

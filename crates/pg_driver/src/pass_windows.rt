@@ -19,7 +19,8 @@ pub const NO_NUMBER: u32 = NUMBERS_END;
 /// Memory for so many numbers is never given back: a smaller list would only grow anew.
 const NUMBERS_AT_LEAST: usize = 1 << 15;
 
-/// A list of numbers that takes less than this part of its memory gives some of it back.
+/// A list of numbers that takes less than one of this many parts of its memory gives some of it
+/// back.
 const USED_PART: usize = 4;
 
 /// A position of a word.
@@ -31,7 +32,8 @@ pub struct WordPosition {
     pub at: u8,
 }
 
-/// What a pass keeps of its windows. The memory stays from pass to pass.
+/// What a pass keeps of its windows. The memory serves later passes. Where a pass used little of
+/// that of the numbers, some of it may be given back.
 #[derive(Drop)]
 pub struct PassWindows {
     /// The number of the window of each position that is listed, or at which the dot of the pass is

@@ -2,8 +2,8 @@
 //! few whole lines of plain English. No byte of a file or of a name reaches the terminal as a
 //! control byte.
 //!
-//! `wrong` says what can be explained, and `explanation` is the call. Each status has a module:
-//! `notes` (0), `false_lines` (1), `arguments` (2), `refused` (3) and `faults` (4).
+//! `wrong` says what can be explained, and `explanation` is the call. The statuses 0 to 4 have a
+//! module each: `notes` (0), `false_lines` (1), `arguments` (2), `refused` (3) and `faults` (4).
 #![tactic(auto)]
 
 mod arguments;

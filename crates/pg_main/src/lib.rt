@@ -1,5 +1,5 @@
-//! What a program of one command does: it takes the arguments, works on the files of the system,
-//! and gives the status.
+//! What the programs patgen and patgen_refused do: they take the arguments, work on the files of
+//! the system, and give the status.
 #![tactic(auto)]
 
 ghost use Rattle.std.specs.Prelude.{◌≡◌, ◌≤◌, ◌⊎◌, IfOk, IfErr, MatchResult};
@@ -144,8 +144,7 @@ fn reason_text(alloc: Global, reason: Option<io::Error>) -> String {
     }
 }
 
-/// Whether the line that says where a call is is shown on `err`, as the variable `PATGEN_PROGRESS`
-/// has it.
+/// Whether the line of progress is shown on `err`, as the variable `PATGEN_PROGRESS` has it.
 fn shows_progress<R: rt::Env + AllocGlobal, E: IsTerminal>(rt: &R, err: &E) -> bool {
     let choice = env::var(rt, "PATGEN_PROGRESS").ok();
     is_shown(choice.as_deref(), err.is_terminal())

@@ -145,7 +145,7 @@ impl<'a, C: Clock, E: Write + Drop> Messages<'a, C, E> {
         }
     }
 
-    /// Takes the arguments of the call.
+    /// Keeps the first argument, with which the line of progress begins.
     pub fn take_arguments(&self, arguments: &[String]) {
         if let Some(first) = arguments.first() {
             if let Ok(command) = String::from_str(self.alloc, first) {

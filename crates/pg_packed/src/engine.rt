@@ -24,7 +24,9 @@ pub struct PackedEngine {
     trie: PatternTrie,
     counts: CountTrie,
     pass: Pass,
+    /// How many passes were begun. Only contracts read it.
     begun: u64,
+    /// Whether the tails are sure to be those of the patterns. Only contracts read it.
     tidy: bool,
     ghost one_alphabet: { counts.signs ≡ trie.signs },
     ghost window_len: { counts.len ≡ pass.len },

@@ -62,7 +62,8 @@ impl LineDraft {
         usize::from(self.len) >= PATTERN_SIGNS_MAX
     }
 
-    /// Adds a sign; a digit before it is then that of its dot.
+    /// Adds a sign. The digit that was set since the last sign, if it is not 0, becomes the value
+    /// at the dot before the new one.
     pub fn push_sign(&mut self, sign: Sign)
         requires { length self.old.signs < PATTERN_SIGNS_MAX }
         ensures { self.new ≡ draft_with_sign self.old sign }

@@ -20,9 +20,10 @@ use std::collections::BTreeMap;
 
 /// An [`Engine`] over ordered maps, which tells no families.
 ///
-/// A word costs a look-up for each of its strings up to the longest that a pattern begins with. A
-/// window that is counted, chosen or given up costs a look-up, and to find a window by its number
-/// costs none. To begin a pass or end a level costs at most the size of what is emptied.
+/// A word costs a look-up for each of its strings up to the longest that a pattern begins with. To
+/// count a window or to give one up costs a look-up. To count one for the first time and to choose
+/// one cost two. To find a window by its number costs none. To begin a pass or end a level costs at
+/// most the size of what is emptied.
 #[derive(Drop)]
 pub struct PlainEngine {
     signs: u16,
@@ -30,6 +31,7 @@ pub struct PlainEngine {
     hopeless: BTreeMap<DottedKey, ()>,
     counts: CountedWindows,
     pass: Pass,
+    /// How many passes were begun. Only contracts read it.
     begun: u64,
     ghost entries: { IsPatternMap patterns.entries },
     ghost strings: { T (is_sorted dotted_cmp hopeless.entries)

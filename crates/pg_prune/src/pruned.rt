@@ -2,8 +2,8 @@
 use pg_patterns::PatternSet;
 use std::marker::Model;
 
-/// The first position that needs an entry. Without the entry its value would be odd where it is
-/// even, or even where it is odd.
+/// A position of a word. In what pruning gives, it is the first that needs an entry: without the
+/// entry its value would be odd where it is even, or even where it is odd.
 #[derive(Clone, Copy, Debug, PartialEq, Eq)]
 pub struct Need {
     /// The number of the word in the dictionary, from 1.

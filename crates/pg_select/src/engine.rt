@@ -23,6 +23,12 @@ use std::alloc::{AllocError, Global};
 /// counted windows and gives up others. It hyphenates each word once in each pass of the levels up
 /// to the greatest starting value, and once at the start of the next level. What a call does not
 /// name stays as it was.
+///
+/// A run counts by `count_numbered`, and reads by `order`, `sums_of` and `seek`. `count`, `sums`
+/// and `next_candidate` are for callers that know windows by their signs, as tests do.
+///
+/// An engine is *tidy* when the tails that `layout` gives are sure to be those of its patterns. It
+/// is so when it is new, and after `end_level` until a window is chosen or given up.
 pub trait Engine {
     ghost meaning: { Self → Meaning };
 
@@ -101,14 +107,15 @@ pub trait Engine {
         ensures { IsNextAbove (meaning self.now).counts at.old at.new result };
 
     /// Gives the window at the cursor the level as its value, where it has no greater one, at the
-    /// dot of the pass. The window is entered into families that are told; a refused call may leave
-    /// part of that.
+    /// dot of the pass. The window is entered into families that are told. After an error a part of
+    /// it may have been entered.
     fn choose(&mut self, at: &Cursor) -> Result<(), AllocError>
         requires { is_counted (meaning self.old).counts at.now ≡ true }
         ensures { Enters result after_choose (meaning self.old) (meaning self.new) at.now };
 
     /// Makes the window at the cursor hopeless at the dot of the pass, to the end of the level. The
-    /// window is entered into families that are told; a refused call may leave part of that.
+    /// window is entered into families that are told. After an error a part of it may have been
+    /// entered.
     fn give_up(&mut self, at: &Cursor) -> Result<(), AllocError>
         requires { is_counted (meaning self.old).counts at.now ≡ true }
         ensures { Enters result after_give_up (meaning self.old) (meaning self.new) at.now };

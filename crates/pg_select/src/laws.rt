@@ -17,8 +17,9 @@ pub fn counts_give_sums()
     ensures { CountsAreTally }
 {}
 
-/// The words of a dictionary have no more positions in reach than letters, and a pass no more
-/// candidates. The totals of the words are below 2^40, and so is each sum of weights of a pass.
+/// The words of a dictionary have no more positions in reach than letters. A pass has no more
+/// candidates than there are such positions. The totals of the words are below 2^40, and so is each
+/// sum of weights of a pass.
 pub fn sums_are_small()
     ensures positions { PositionsAreFew }
     ensures candidates { CandidatesAreFew }

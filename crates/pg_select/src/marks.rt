@@ -27,7 +27,7 @@ pub fn no_totals() -> Totals
     }
 }
 
-/// The first position of a word in reach, and the position behind the last one; none where the word
+/// The first position in reach of a word, and the position behind the last one; none where the word
 /// takes no part.
 pub fn positions(table: &Table, w: &WordRef<'_>) -> Option<(usize, usize)>
     requires { IsWord (lent_word w.now) }

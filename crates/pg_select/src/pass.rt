@@ -15,8 +15,8 @@ pub struct Pass {
 }
 
 impl Pass {
-    /// Whether a string of `len` signs stands in a window of the pass where it stands in the word
-    /// with its dot at the window's dot.
+    /// Whether a string of `len` signs lies inside a window of the pass if its own dot, `dot`, is
+    /// laid on the dot of the window.
     pub fn has_within(&self, len: usize, dot: u8) -> bool
         requires { len ≤ WORD_LETTERS_MAX + 2 }
         ensures { result ≡ is_within self.now.len self.now.dot len dot }

@@ -5,7 +5,8 @@ use std::marker::Model;
 /// The room for a word's positions: as many as a word has signs.
 const ROOM: usize = WORD_LETTERS_MAX + 2;
 
-/// The value of each position of a word, and whether its window is covered. It takes no memory.
+/// The value of each position of a word, and whether its window is covered. It lies on the stack
+/// and allocates nothing.
 #[derive(Drop)]
 pub struct WordState {
     values: [u8; ROOM],

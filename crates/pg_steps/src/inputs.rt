@@ -22,7 +22,7 @@ pub enum Input {
     /// The translate file.
     Translate,
     Parameters,
-    /// The starting patterns.
+    /// A pattern file: the starting patterns, or the finished ones of `pack` and `prune`.
     Patterns,
     Dictionary,
     /// One of several parameter files, by its number from 1.

@@ -85,7 +85,7 @@ fn accept<'a, T, W: Watch>(
     }
 }
 
-/// Reads the translate file.
+/// Reads the translate file. The observer is told that it gave the letters, or that it is refused.
 pub fn read_table<'a, F: Files, W: Watch>(
     alloc: Global,
     name: &'a str,
@@ -118,7 +118,7 @@ pub fn read_parameters<'a, F: Files, W: Watch>(
     accept(read, input, name, &bytes, None, watch)
 }
 
-/// Reads the starting patterns under a table.
+/// Reads a pattern file under a table.
 pub fn read_start<'a, F: Files, W: Watch>(
     alloc: Global,
     table: &Table,
@@ -158,7 +158,7 @@ pub fn read_dictionary<'a, F: Files, W: Watch>(
     accept(read, Input::Dictionary, name, &bytes, Some(table), watch)
 }
 
-/// Reads the starting patterns and then the dictionary, both under a table.
+/// Reads a pattern file and then the dictionary, both under a table.
 pub fn read_lists<'a, F: Files, W: Watch>(
     alloc: Global,
     table: &Table,

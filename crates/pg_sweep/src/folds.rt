@@ -23,6 +23,7 @@ pub(crate) struct SharedInputs<'a> {
     pub table: &'a Table,
     /// The patterns to start with.
     pub start: &'a PatternSet,
+    /// How many folds there are.
     pub folds: u8,
 }
 

@@ -10,7 +10,7 @@ use pg_types::Totals;
 #[derive(Clone, Copy, Debug, PartialEq, Eq)]
 pub struct SweepRow {
     pub totals: Totals,
-    /// The bad and the missed sum, each times what a unit of it costs.
+    /// The bad sum times the price of bad, and the missed sum times that of missed, together.
     pub cost: u64,
 }
 

@@ -32,8 +32,10 @@ fn with_cost(totals: Totals, bad: u32, missed: u32) -> SweepRow
 }
 
 /// Weighs each set of parameters: for each fold it selects patterns from all words but those of the
-/// fold, and adds up the totals of the words that were left out. `bad` and `missed` are what a unit
-/// of each costs, 1 to [`PRICE_MAX`](pg_types::PRICE_MAX).
+/// fold, and adds up the totals of the words that were left out. There are 1 to
+/// [`SETS_MAX`](pg_types::SETS_MAX) sets, and [`FOLDS_MIN`](pg_types::FOLDS_MIN) to
+/// [`FOLDS_MAX`](pg_types::FOLDS_MAX) folds. `bad` and `missed` are what a unit of each costs, 1 to
+/// [`PRICE_MAX`](pg_types::PRICE_MAX).
 ///
 /// One engine is alive at a time. The only error is a lack of memory.
 pub fn sweep<K: Maker>(

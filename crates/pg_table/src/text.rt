@@ -29,7 +29,8 @@ use std::alloc::{AllocError, Global};
 /// [`TableView`](crate::TableView) reads it in place, and each string has the values of the
 /// patterns there.
 ///
-/// [`TableError::TooLong`] comes exactly where the table would have more than [`TABLE_MAX`] bytes.
+/// [`TableError::TooLong`] comes only where the table would have more than [`TABLE_MAX`] bytes.
+/// Such a table is never given: where memory is short first, [`TableError::Memory`] comes.
 pub fn table_text(alloc: Global, signs: u16, patterns: &PatternSet) -> Result<Vec<u8>, TableError>
     requires signs { IsSignCount signs }
     requires known { SignsUpTo signs patterns.now }

@@ -40,11 +40,11 @@ level_text source l = flat_map (pass_text source) (filter has_candidate l.passes
 abbrev pub hundredths : ℕ → List ℕ
 hundredths n = decimal (n / 100) ++ codes "." ++ decimal (n / 10 % 10) ++ decimal (n % 10)
 
--- a share of the hyphens in reach in hundredths of a percent, cut
+-- a sum in hundredths of a percent of good and missed together, cut
 abbrev pub rate : Totals → ℕ → List ℕ
 rate t share = hundredths (10000 * share / (t.good + t.missed))
 
--- the line of rates, where a hyphen is in reach
+-- the line of rates, where good and missed are not both 0
 abbrev pub rate_text : Totals → List ℕ
 rate_text t = if t.good + t.missed == 0 then []
     else codes "rate: " ++ rate t t.good ++ codes " % good, "

@@ -12,9 +12,10 @@ use pg_select::{Engine, WordState};
 use pg_translate::Table;
 use std::alloc::{AllocError, Global};
 
-/// The hyphenated list: the words that take part, in the order of the dictionary. Each has the
-/// marks of its positions by the patterns of the engine, and the weights that differ from those
-/// before them.
+/// The hyphenated list: the words that take part, in the order of the dictionary. A word has its
+/// word weight before it, where that differs from the one of the line before. Before the first line
+/// the word weight is 1. Each position has its mark by the patterns of the engine, and its weight
+/// where that differs from the word weight.
 ///
 /// If it has at most [`FILE_MAX`](pg_types::FILE_MAX) bytes, it is a dictionary file of these
 /// words, under the same table, with their hyphens, their cares and all their weights. Each word is

@@ -7,7 +7,7 @@ ghost use Rattle.pg_texts.specs.ReportTexts.{totals_text, hundredths, rate_text,
 use pg_types::{Totals, push_number};
 use std::alloc::AllocError;
 
-/// Appends totals.
+/// Appends totals as `G good, B bad, M missed`.
 pub fn push_totals(text: &mut Vec<u8>, totals: &Totals) -> Result<(), AllocError>
     ensures { OnOk result (text.new.items ≡ text.old.items ++ totals_text totals.now) }
 {
@@ -26,7 +26,7 @@ fn push_hundredths(text: &mut Vec<u8>, front: &[u8], n: u64) -> Result<(), Alloc
     push_number(text, b"", n % 10)
 }
 
-/// A share of a whole in hundredths of a percent, cut.
+/// A sum in hundredths of a percent of a whole, cut.
 fn rate(share: u64, whole: u64) -> u64
     requires small { share < sums_limit }
     requires some { 0 < whole }
@@ -35,8 +35,8 @@ fn rate(share: u64, whole: u64) -> u64
     10_000 * share / whole
 }
 
-/// Appends the line of rates: the shares of the hyphens in reach in percent, cut after two digits.
-/// There is none where no hyphen is in reach.
+/// Appends the line of rates: good, bad and missed in percent of good and missed together, cut
+/// after two digits. There is none where good and missed are both 0.
 fn push_rates(text: &mut Vec<u8>, totals: &Totals) -> Result<(), AllocError>
     requires { IsSmall totals.now }
     ensures { OnOk result (text.new.items ≡ text.old.items ++ rate_text totals.now) }

@@ -65,6 +65,7 @@ impl<'a, F: Drop> ScriptedFile<'a, F> {
         }
     }
 
+    /// Fails where this is the broken step.
     fn check(&self, step: Broken) -> io::Result<()> {
         if self.broken == step {
             return Err(failure());

@@ -35,7 +35,7 @@ pub struct ToldDisk {
     failing: FailurePlan,
 }
 
-/// Which calls fail, and how many did.
+/// Which calls fail, and a count that rises with each failure, by one or by two.
 #[derive(Drop)]
 struct FailurePlan {
     calls: u64,

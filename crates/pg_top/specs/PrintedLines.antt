@@ -8,8 +8,8 @@ use Rattle.pg_texts.specs.ReportTexts.{totals_text}
 abbrev pub usage_line : List ℕ
 usage_line = codes "usage: patgen COMMAND NAMES [OPTIONS]\n"
 
--- the line where `generate` is done: how many lines the pattern file has, and the totals of its
--- patterns
+-- the line where `generate` or `sample` is done: how many lines the pattern file has, and the
+-- totals of its patterns
 abbrev pub done_line : List ℕ → Totals → List ℕ
 done_line patterns t = codes "done: " ++ decimal (length (lines patterns))
     ++ codes " patterns, " ++ totals_text t ++ codes "\n"

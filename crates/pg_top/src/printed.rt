@@ -23,8 +23,8 @@ pub fn count_lines(text: &[u8]) -> usize
     count
 }
 
-/// The line where `generate` is done: how many lines the pattern file has, and the totals of its
-/// patterns.
+/// The line where `generate` or `sample` is done: how many lines the pattern file has, and the
+/// totals of its patterns.
 pub fn done_line(alloc: Global, patterns: &[u8], totals: &Totals) -> Result<Vec<u8>, AllocError>
     ensures { IfOk result (λ line. line.items ≡ done_line_of patterns.now totals.now) }
 {
@@ -33,7 +33,7 @@ pub fn done_line(alloc: Global, patterns: &[u8], totals: &Totals) -> Result<Vec<
     Ok(line)
 }
 
-/// Appends the `done:` line of `generate` to an empty text.
+/// Appends the `done:` line to an empty text.
 fn begin_done(line: &mut Vec<u8>, patterns: &[u8], totals: &Totals) -> Result<(), AllocError>
     requires { line.old.items ≡ [] }
     ensures { OnOk result (line.new.items ≡ done_line_of patterns.now totals.now) }

@@ -82,11 +82,11 @@ fn perform<F: Files, O: Sink, W: Watch>(
 /// dictionary. It takes out the entries that change no break of a word, writes the rest, and then a
 /// report of the first position that needs each. `sweep` reads the translate file, the parameter
 /// files, the starting patterns and the dictionary. It makes a run for each parameter file and
-/// fold, writes the table of what they come to, and prints which file is the cheapest.
+/// fold, writes what they come to as a JSON object, and prints which file is the cheapest.
 ///
 /// The first refusal ends a call, and so does the first fault. All lines of an answer are put at
 /// once, as the last step. Only the line of a fault is put in three parts: the front, the name and
-/// the end.
+/// the end. Where one of them cannot be put, no other follows.
 ///
 /// - `Usage` comes exactly where the arguments are no command, unless the line cannot be put.
 /// - `Refused` comes only where an input is refused, the first in the order of reading, or where

@@ -9,7 +9,7 @@ use Rattle.pg_translate.specs.declared.spellings.TheConstants.{SPELLING_MAX}
 abbrev pub is_space : ℕ → Bool
 is_space b = b == 32 || b == 9 || b == 10 || b == 13
 
--- whether a spelling may begin with a byte: it is no digit, dot, brace or mark
+-- whether a spelling may begin with a byte: it is no digit, dot, `{` or mark
 abbrev pub may_begin : List ℕ → ℕ → Bool
 may_begin marks b = not
     (is_ascii_digit b || b == 46 || b == 123 || list_any (λ mark. mark == b) marks)

@@ -48,7 +48,7 @@ abbrev pub marks_of : List ℕ → List ℕ
 marks_of head = mark_in head 5 DEFAULT_ERROR ∷ mark_in head 6 DEFAULT_MISSED
     ∷ mark_in head 7 DEFAULT_FOUND ∷ mark_in head 8 DEFAULT_DONT_CARE ∷ []
 
--- a mark fails where it is a digit, a blank, TAB, LF, CR or brace, or equals one before it
+-- a mark fails where it is a digit, a blank, TAB, LF, CR or `{`, or equals one before it
 abbrev pub mark_fails : List ℕ → ℕ → Bool
 mark_fails earlier mark = is_ascii_digit mark || is_space mark
     || mark == 123 || list_any (λ other. other == mark) earlier

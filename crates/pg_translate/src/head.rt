@@ -109,7 +109,8 @@ fn mark_in(head: &[u8], column: usize, default: u8) -> u8
     if byte == b' ' { default } else { byte }
 }
 
-/// Whether a byte is no mark beside those before it.
+/// Whether a byte may not be a mark: it is a digit, a blank, a TAB, an LF, a CR or `{`, or equals
+/// an earlier mark.
 fn mark_fails(earlier: &[u8], mark: u8) -> bool
     ensures { result ≡ table.mark_fails earlier.now mark }
 {
@@ -154,8 +155,7 @@ fn bad_mark(column: u32) -> Refusal
     }
 }
 
-/// Whether the mark bytes of a head are marks, one after the other, or the refusal of the first
-/// that is none.
+/// Refuses the first mark byte of a head that may not be a mark. The four stand in columns 5 to 8.
 fn check_marks(error: u8, missed: u8, found: u8, dont_care: u8) -> Result<(), Refusal>
     ensures { MatchResult result
         (λ _. checks.mark_checks (error ∷ missed ∷ found ∷ dont_care ∷ []) ≡ [])

@@ -1,4 +1,4 @@
-//! The index of the spellings by their fronts: it finds the spelling that begins a text, and
+//! The index of the spellings by their prefixes: it finds the spelling that begins a text, and
 //! clashes, in a look-up for each byte.
 ghost use Rattle.std.specs.Prelude.{◌≡◌, ℕ, ◌+◌, ◌<◌, ◌≤◌, false, ◌++◌, ◌==◌, if◌then◌else◌, ◌∷◌, [], List, length, MatchOption, IfSome, IfOk, OnOk, Some, None, slice_get, map};
 ghost use Rattle.std.specs.List.{list_any, flat_map, range_with_len};
@@ -17,10 +17,10 @@ use pg_types::Sign;
 use std::alloc::{AllocError, Global};
 use std::collections::HashMap;
 
-/// What the first bytes of spellings are.
+/// What a prefix of spellings is.
 #[derive(Clone, Copy)]
 pub(crate) enum Front {
-    /// A proper front of spellings.
+    /// It is a proper prefix of one or more spellings, and no whole one.
     Inside,
     /// A whole spelling of the letter with this sign.
     Whole(Sign),
@@ -49,13 +49,14 @@ pub(crate) struct Spelling {
 /// The spellings of a table.
 #[derive(Drop)]
 pub(crate) struct Index {
-    /// All spellings, in the order of the file.
+    /// All spellings, in the order of the file. Only contracts read them. Look-ups use the fields
+    /// below.
     spellings: Vec<Spelling>,
     /// The first spelling of each letter, in the order of signs.
     firsts: Vec<Text>,
-    /// The fronts of one byte, by that byte.
+    /// The prefixes of one byte, by that byte.
     heads: [Option<Front>; 256],
-    /// The longer fronts. The key is the number whose digits in base 256 are a 1 and then the
+    /// The longer prefixes. The key is the number whose digits in base 256 are a 1 and then the
     /// bytes.
     longer: HashMap<u128, Front>,
 }

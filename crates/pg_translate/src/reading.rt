@@ -39,7 +39,7 @@ fn has_space(text: &[u8]) -> bool
     text.iter().any(|byte| is_space(*byte))
 }
 
-/// Whether the first byte of a text may begin a spelling: it is no digit, dot, brace or mark.
+/// Whether the first byte of a text may begin a spelling: it is no digit, dot, `{` or mark.
 fn begins_well(marks: &[u8], text: &[u8]) -> bool
     ensures { result ≡ beginnings.begins_well marks.now text.now }
 {

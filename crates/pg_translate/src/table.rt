@@ -112,7 +112,8 @@ impl Table {
         if s == EDGE { b"." } else { self.index.first(s) }
     }
 
-    /// The byte of a mark.
+    /// The byte that the head of the translate file, or a default, gives to this status. `Nothing`
+    /// has none, and may not be asked for.
     pub fn mark_byte(&self, m: Mark) -> u8
         requires { ¬ (m ≡ Mark.Nothing) }
         ensures { result ≡ mark_byte_of self.now m }
@@ -126,7 +127,7 @@ impl Table {
         }
     }
 
-    /// The first and the last position in reach of a word of so many signs, its edges included.
+    /// The first and the last position in reach of a word of `signs` signs, its edges included.
     /// There is none where such a word takes no part, as it has fewer letters than both minima
     /// together.
     pub fn reach(&self, signs: usize) -> Option<(usize, usize)>

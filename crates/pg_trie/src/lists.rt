@@ -13,7 +13,7 @@ use pg_outputs::Outputs;
 use std::alloc::AllocError;
 use std::marker::Model;
 
-/// So many raised heads are kept.
+/// How many raised heads are kept.
 const SLOTS: usize = 64;
 
 /// A head, and that of its list with a value at a dot. The value 0 says that there is none.

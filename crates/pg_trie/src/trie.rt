@@ -72,8 +72,8 @@ impl PatternTrie {
     /// Raises the value at the dot of a string, or makes it hopeless for the value
     /// [`HOPELESS`](crate::HOPELESS).
     ///
-    /// Refused: the maps are as before; some of the string's signs may have cells, and there may be
-    /// further records.
+    /// After an error the maps are as before. Some of the string's signs may then have cells, and
+    /// there may be further records.
     pub fn enter(&mut self, signs: &[Sign], dot: u8, value: u8) -> Result<(), AllocError>
         requires some { 0 < length signs.now }
         requires few { length signs.now ≤ PATTERN_SIGNS_MAX }

@@ -48,7 +48,7 @@ fn first_separator(rest: &[u8]) -> Option<usize>
     rest.iter().position(|byte| is_separator(*byte))
 }
 
-/// The first item of `rest` and what follows it.
+/// The first item of `rest` and what follows it; none where only separators are left.
 pub fn next_item(rest: &[u8]) -> Option<(&[u8], &[u8])>
     ensures { MatchOption result (items rest.now ≡ [])
         (λ r. items rest.now ≡ r.0.now ∷ items r.1.now) }

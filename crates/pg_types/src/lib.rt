@@ -1,6 +1,6 @@
-//! What every crate of PatGen speaks of: signs, weights and limits, the status of a position,
-//! totals, and a layout's numbers. Refusals, lines, numbers in a text, and rows of bits are here
-//! too. So are the sizes of a packed table, the parameters of a run, and the cursor over windows.
+//! What most crates of PatGen share: signs, weights and limits, the status of a position, totals,
+//! and a layout's numbers. Refusals, lines, numbers in a text, and rows of bits are here too. So
+//! are the sizes of a packed table, the parameters of a run, and the cursor over windows.
 #![tactic(auto)]
 
 pub mod bits;

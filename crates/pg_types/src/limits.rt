@@ -39,12 +39,13 @@ pub const PATTERN_SIGNS_MAX: usize = 32;
 /// The number that a count gives to a window is below this one.
 pub const NUMBERS_END: u32 = u32::MAX;
 
-/// In the pattern trie a family of up to so many signs is placed from base 1 on, and a greater one
-/// near the greatest taken cell.
+/// In the pattern trie a family of at most this many signs is placed from base 1 on, and a greater
+/// one near the greatest taken cell. The rule is modelled on patgen's first fit, and the number is
+/// PatGen's own.
 pub const FEW_SIGNS: usize = 4;
 
-/// The search for the base of a greater family begins this far below the greatest taken cell. It
-/// begins farther below where the table has more signs than this.
+/// The search for the base of a greater family begins this far below the greatest taken cell. Where
+/// the table has more signs than this, it begins that many below. It never begins below base 1.
 pub const FAR_BELOW: usize = 255;
 
 /// The most parameter files that `sweep` takes.

@@ -1,6 +1,7 @@
 //! The status of a position, and the sums and numbers that a run reports.
 
-/// The status of a position of a word, and the mark byte that stands for it in a dictionary.
+/// The status of a position of a word. Each but `Nothing` has a mark byte, which stands for it in a
+/// dictionary.
 #[derive(Clone, Copy, Debug, PartialEq, Eq)]
 pub enum Mark {
     /// No hyphen, and no pattern breaks the word here.

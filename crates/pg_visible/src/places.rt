@@ -12,10 +12,11 @@ pub struct Spot<'a> {
     pub line: usize,
     /// From 1.
     pub column: usize,
+    /// The line, without its end.
     pub text: &'a [u8],
 }
 
-/// The line with this number, from 1, without its end; none where there are not so many.
+/// The line with this number, from 1, without its end; none where the file has fewer lines.
 fn line_at(bytes: &[u8], line: usize) -> Option<&[u8]>
     ensures { option_copied result ≡ slice_get (lines bytes.now) (line - 1) }
 {
@@ -35,7 +36,7 @@ impl<'a> Spot<'a> {
     ghost use Rattle.std.specs.Prelude.{◌≡◌, ◌-◌, [], length, min, drop, slice_get, unwrap_or};
     ghost use Rattle.pg_types.specs.Lines.{lines};
 
-    /// The place in this line and column. The line is empty where there are not so many.
+    /// The place in this line and column. The line is empty where the file has fewer lines.
     pub fn new(bytes: &'a [u8], line: usize, column: usize) -> Spot<'a>
         ensures line { result.line ≡ line }
         ensures column { result.column ≡ column }

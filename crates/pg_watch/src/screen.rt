@@ -69,7 +69,7 @@ impl<'a, C: Clock, E: Write + Drop> Screen<'a, C, E> {
         }
     }
 
-    /// The seconds since the start, where the line is to be shown now.
+    /// The seconds since the start, where the line is to be shown now. It then counts as shown.
     pub fn due(&self) -> Option<u64> {
         let now = self.start?.elapsed(self.clock).ok()?;
         if is_due(now, self.shown.get()) {

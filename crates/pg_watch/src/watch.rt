@@ -22,7 +22,7 @@ pub struct PassProgress {
     pub dot: u8,
 }
 
-/// The run of a sweep that begins. All of it is counted from 1.
+/// The run of a sweep that begins. Its set and its fold are counted from 1.
 #[derive(Clone, Copy, Debug, PartialEq, Eq)]
 pub struct SweepRun {
     /// The set of parameters.
@@ -71,7 +71,8 @@ pub trait Watch {
     /// A file is refused.
     fn refuses(&self, refused: &RefusedFile<'_>);
 
-    /// A selection begins, with the patterns of the file of this name.
+    /// A selection begins, with the patterns of the file of this name. `sweep` tells this once,
+    /// before its first run, with the parameters whose first level is the lowest.
     fn selects(&self, name: &str, params: &Params, start: &PatternSet);
 
     /// A run of a sweep begins.

@@ -6,12 +6,15 @@ ghost use Rattle.pg_words.specs.Inside.CommandRequests.{asked_by, pack_of, total
 /// The names that `generate` and `audit` are given. `audit` reads the files that `generate` writes.
 #[derive(Clone, Copy)]
 pub struct Names<'a> {
+    /// The dictionary.
     pub dict: &'a str,
     /// The starting patterns.
     pub patterns: &'a str,
     /// Where the patterns are written.
     pub output: &'a str,
+    /// The translate file.
     pub translate: &'a str,
+    /// The parameters file.
     pub params: &'a str,
     /// Where the report is written.
     pub report: &'a str,
@@ -24,7 +27,9 @@ pub struct Names<'a> {
 /// The names that `pack` is given.
 #[derive(Clone, Copy)]
 pub struct PackNames<'a> {
+    /// The patterns.
     pub patterns: &'a str,
+    /// The translate file.
     pub translate: &'a str,
     /// Where the table is written.
     pub table: &'a str,
@@ -47,7 +52,9 @@ impl<'a> PackNames<'a> {
 /// The names that `totals` is given.
 #[derive(Clone, Copy)]
 pub struct TotalsNames<'a> {
+    /// The dictionary.
     pub dict: &'a str,
+    /// The translate file.
     pub translate: &'a str,
     /// The packed table.
     pub table: &'a str,
@@ -70,10 +77,13 @@ impl<'a> TotalsNames<'a> {
 /// The names that `prune` is given.
 #[derive(Clone, Copy)]
 pub struct PruneNames<'a> {
+    /// The dictionary.
     pub dict: &'a str,
+    /// The patterns.
     pub patterns: &'a str,
     /// Where the patterns that stay are written.
     pub output: &'a str,
+    /// The translate file.
     pub translate: &'a str,
     /// Where the report is written.
     pub report: &'a str,
@@ -104,11 +114,13 @@ impl<'a> PruneNames<'a> {
 /// What `sweep` is given.
 #[derive(Clone, Copy)]
 pub struct SweepWords<'a> {
+    /// The dictionary.
     pub dict: &'a str,
     /// The starting patterns.
     pub patterns: &'a str,
     /// Where the table of the sweep is written.
     pub output: &'a str,
+    /// The translate file.
     pub translate: &'a str,
     /// [`FOLDS_MIN`](pg_types::FOLDS_MIN) to [`FOLDS_MAX`](pg_types::FOLDS_MAX).
     pub folds: u8,
@@ -127,28 +139,39 @@ pub enum Command<'a> {
     Generate(Names<'a>),
     /// To compare given files with those that would be written.
     Audit(Names<'a>),
-    /// To make a dictionary of so many words from a seed, and to print how a selection on it goes:
+    /// To make a dictionary from a seed, and to print how a selection on it goes. The fields are
     /// the seed and the number of words.
     Sample(u32, u32),
     /// To write the packed table of patterns.
     Pack {
+        /// The patterns.
         patterns: &'a str,
+        /// The translate file.
         translate: &'a str,
+        /// Where the table is written.
         table: &'a str,
     },
     /// To print the totals of a dictionary by a packed table.
     Totals {
+        /// The dictionary.
         dict: &'a str,
+        /// The translate file.
         translate: &'a str,
+        /// The packed table.
         table: &'a str,
     },
     /// To take out the entries of patterns that change no break of a dictionary, and to write the
     /// rest and a report.
     Prune {
+        /// The dictionary.
         dict: &'a str,
+        /// The patterns.
         patterns: &'a str,
+        /// Where the patterns that stay are written.
         output: &'a str,
+        /// The translate file.
         translate: &'a str,
+        /// Where the report is written.
         report: &'a str,
     },
     /// To find the cheapest of several parameter files, and to write what each comes to.

@@ -24,8 +24,8 @@ fn digits_value(digits: &[u8], most: u32) -> Option<u32>
     Some(value)
 }
 
-/// The number that an argument of 1 to so many decimal digits is, where it is at least `least` and
-/// at most `most`.
+/// The number that an argument of 1 to `digits` decimal digits writes, where it is at least `least`
+/// and at most `most`.
 pub fn number_within(argument: &str, digits: usize, least: u32, most: u32) -> Option<u32>
     ensures value { result ≡ number_within_of digits least most argument.now }
     ensures within { IfSome result (λ n. (least ≤ n) × (n ≤ most)) }

@@ -30,8 +30,8 @@ pub fn joins<V: Copy>(store: &Store<V>, base: usize, s: Sign) -> bool
 }
 
 /// Adds the slot's sign to the family below the parent's string, and answers its cell. Where the
-/// sign does not join the family in place, `members` are the family's signs. Refused: the cells
-/// that were there are as before.
+/// sign does not join the family in place, `members` are the family's signs. After an error the
+/// cells that were there are as before.
 pub fn add_slot<V: Copy>(
     store: &mut Store<V>,
     moving: &mut Vec<Slot<Member<V>>>,

@@ -24,7 +24,7 @@ impl BitSet {
         }
     }
 
-    /// Makes room for at least so many indices. Refused: nothing changes.
+    /// Makes room for at least `count` indices. After an error nothing has changed.
     pub fn make_room(&mut self, count: usize) -> Result<(), AllocError>
         ensures room { OnOk result (count ≤ room_of self.new) }
         ensures grows { room_of self.old ≤ room_of self.new }

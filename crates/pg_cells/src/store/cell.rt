@@ -28,7 +28,7 @@ pub const FIRST_COUNT: u32 = 1 << 9;
 /// first sign.
 pub const BASE_AT: u32 = 1 << 2;
 
-/// In `links` the link stands from this bit on.
+/// In `links` the index of another cell stands from this bit on.
 pub const LINK_AT: u32 = 1 << 3;
 
 /// A cell. Its parts beside the value are packed into two numbers of 32 bits, so that many cells
@@ -44,8 +44,8 @@ pub struct Cell<V> {
     /// free cell before it.
     pub signs: u32,
     /// The upper part of the first sign, whether the index of the cell is the base of a family, and
-    /// a link. The link of a taken cell is the base of its child family, 0 for none; that of a free
-    /// cell is the free cell after it, 0 for none.
+    /// the index of another cell. In a taken cell that is the base of its child family, in a free
+    /// cell the free cell after it; 0 for none.
     pub links: u32,
 }
 

@@ -146,6 +146,7 @@ pub fn push_cell<V: Copy>(cells: &mut Vec<Cell<V>>, value: V) -> Result<(), Allo
     ensures linked { AreLinked (linked_row cells.new.items) }
     ensures err { OnErr result (cells.new.items ≡ cells.old.items) }
 {
+    // It is pushed as taken, since only a taken cell can be put into the list.
     cells.push(Cell {
         value,
         signs: 1,

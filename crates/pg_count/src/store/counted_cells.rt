@@ -22,8 +22,8 @@ use pg_types::{NUMBERS_END, Sign};
 use std::alloc::{AllocError, Global};
 use std::marker::Model;
 
-/// The cells of a pass stay for the next one where they are at most so many times its counted
-/// strings.
+/// The cells of a pass may stay for the next one if there are at most this many for each counted
+/// string.
 const CELLS_PER_TALLY: usize = 4;
 
 /// Cells of strings, each with its sums where it is counted. The cell of a string has an entry that
@@ -126,7 +126,7 @@ impl CountedCells {
 
     /// Adds the sign to the family below the parent's string, and gives its cell. The string with
     /// the sign is not counted. Other cells of this family may move, so a cell's index got before
-    /// may be that of another string's cell. Refused: nothing changes.
+    /// may be that of another string's cell. After an error nothing has changed.
     pub fn add(&mut self, parent: usize, s: Sign) -> Result<usize, AllocError>
         requires { CanTakeSign self.old.signs self.old.families parent s }
         ensures held { (q : List ℕ) → cell_of self.old.families q ≡ Some parent
@@ -140,7 +140,8 @@ impl CountedCells {
     }
 
     /// Adds the sign to the family below the string of the cell, which is counted, and gives its
-    /// cell. The number and the sums go over to the string with the sign. Refused: nothing changes.
+    /// cell. The number and the sums go over to the string with the sign. After an error nothing
+    /// has changed.
     pub fn push_down(&mut self, cell: usize, s: Sign) -> Result<usize, AllocError>
         requires cell { (q : List ℕ) × (t : Tally) × ((cell_of self.old.families q ≡ Some cell)
             × (find (slice_cmp nat_cmp) q self.old.values ≡ Some (Some t))
@@ -178,7 +179,7 @@ impl CountedCells {
     }
 
     /// Counts a string that is not counted, with the sums, and gives its number, which is the next
-    /// one. Refused: it is not counted.
+    /// one. After an error it is not counted.
     pub fn count(&mut self, cell: usize, sums: (u64, u64)) -> Result<u32, AllocError>
         requires { (q : List ℕ) × ((cell_of self.old.families q ≡ Some cell)
             × (find (slice_cmp nat_cmp) q self.old.values ≡ Some None)) }

@@ -47,7 +47,7 @@ pub fn set_sums_at(tallies: &mut Vec<(u64, u64)>, number: u32, sums: (u64, u64))
 
 /// Adds a tally and gives its entry, which is `first` plus its number, as long as an entry is left.
 ///
-/// Refused: the tallies are as before.
+/// After an error the tallies are as before.
 pub fn push_sums(
     tallies: &mut Vec<(u64, u64)>,
     first: u32,

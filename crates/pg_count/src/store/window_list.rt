@@ -36,7 +36,7 @@ impl WindowList {
         }
     }
 
-    /// Drops the windows. From now on a window has so many signs. It takes no memory.
+    /// Drops the windows. From now on a window has `len` signs. It takes no memory.
     pub fn begin(&mut self, len: u8)
         requires { 1 ≤ len }
         ensures { self.new ≡ record self.old { len = len; items = [] } }
@@ -62,7 +62,7 @@ impl WindowList {
         &self.signs[start..start + len]
     }
 
-    /// Gives a window the next number. Refused: nothing changes.
+    /// Gives a window the next number. After an error nothing has changed.
     pub fn push(&mut self, window: &[Sign]) -> Result<(), AllocError>
         requires { length window.now ≡ self.old.len }
         ensures ok { OnOk result

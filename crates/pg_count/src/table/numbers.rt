@@ -4,11 +4,11 @@ ghost use Rattle.pg_count.specs.Inside.Tables.{numbers_in_row};
 
 use std::alloc::AllocError;
 
-/// The numbers of so many entries are appended together.
+/// How many entries are looked at before their numbers are appended.
 const BLOCK: usize = 256;
 
-/// Appends the numbers of the pass in the order of the entries. Refused: some of them may have been
-/// appended.
+/// Appends the numbers of the pass in the order of the entries. After an error some of them may
+/// have been appended.
 pub fn push_numbers(numbers: &[u32], first: u32, out: &mut Vec<u32>) -> Result<(), AllocError>
     ensures { OnOk result (out.new.items ≡ out.old.items ++ numbers_in_row first numbers.now) }
 {

@@ -3,8 +3,8 @@ ghost use Rattle.std.specs.Prelude.{◌≡◌, ◌<◌, ◌⊎◌, ℕ, length, 
 
 use std::alloc::AllocError;
 
-/// Gives the table all its entries if it lacks the one at `index`. New ones are 0. Refused: nothing
-/// changes.
+/// Gives the table all its entries if it lacks the one at `index`. New ones are 0. After an error
+/// nothing has changed.
 pub fn make_room(numbers: &mut Vec<u32>, index: usize, entries: usize) -> Result<(), AllocError>
     requires { index < entries }
     ensures kept { (i k : ℕ) → slice_get numbers.old.items i ≡ Some k

@@ -66,7 +66,7 @@ impl TableCounts {
         }
     }
 
-    /// Begins a pass with windows of so many signs, which are short: no window is counted. It takes
+    /// Begins a pass with windows of `len` signs, which are short: no window is counted. It takes
     /// no memory.
     pub fn begin(&mut self, len: u8)
         requires len { (1 ≤ len) × (len ≤ LENGTH_MAX) }
@@ -102,7 +102,7 @@ impl TableCounts {
     }
 
     // Counts a window that is not counted, with the sums, and gives its number, which is the next
-    // one. Refused: it is not counted.
+    // one. After an error it is not counted.
     #[inline(never)]
     fn count_new(&mut self, window: &[Sign], sums: (u64, u64)) -> Result<u32, AllocError>
         requires len { length window.now ≡ self.old.len }

@@ -19,8 +19,8 @@ pub struct SeenCandidate {
     pub window: Cursor,
 }
 
-// Looks at the candidates with these numbers. Their windows were counted far apart, so each stands
-// elsewhere in memory. The processor fetches them side by side where they are read together.
+/// Looks at the candidates with these numbers. Their windows were counted far apart, so each stands
+/// elsewhere in memory. Where they are read together, the processor fetches them at the same time.
 fn look_at<E: Engine>(
     engine: &E,
     fates: &[Choice],

@@ -9,9 +9,9 @@ use pg_types::Totals;
 
 /// The totals after a pass whose chosen windows have these sums of good and bad weights.
 ///
-/// At a level that finds, the good sum moves from missed to found, and the bad sum is added to the
-/// errors. At a level that prevents, the good sum leaves the errors, and the bad sum moves from
-/// found to missed.
+/// At an odd level, the good sum moves from missed to found, and the bad sum is added to the
+/// errors. At an even level, the good sum leaves the errors, and the bad sum moves from found to
+/// missed.
 pub fn totals_after(before: Totals, level: u8, good: u64, bad: u64) -> Totals
     requires small { IsSmall before }
     requires sums { (good < sums_limit) × (bad < sums_limit) }

@@ -132,7 +132,7 @@ fn close_at(dots: &mut OpenDots, dot: u8, sign: usize, fate: Option<Choice>)
 }
 
 /// Closes dots after the choices of a pass, by the numbers of the windows of the positions at which
-/// its dot is open. `end` is how many signs there are. It takes no memory.
+/// its dot is open. It takes no memory. Only the contract reads `end`: how many signs there are.
 pub fn close_dots(dot: u8, fates: &[Choice], numbers: &[u32], end: usize, dots: &mut OpenDots)
     requires dot { dot < dots.old.reached }
     requires size { end ≤ position_count dots.old }

@@ -7,8 +7,8 @@ ghost use Rattle.pg_driver.specs.Inside.counting.OpenSigns.{has_care as has_care
 use pg_select::Pass;
 use pg_types::{Mark, Sign};
 
-/// Whether a position of this status counts at a level as good, or as bad, or not at all. Levels
-/// find breaks and prevent them by turns, beginning with a level that finds.
+/// Whether a position of this status counts at a level as good, or as bad, or not at all. Odd
+/// levels find breaks, and even levels forbid them (Liang's thesis of 1983, patgen 2.4).
 pub fn counts_as(level: u8, mark: Mark) -> Option<bool>
     ensures { result ≡ counts_as_of level mark }
 {
@@ -22,7 +22,8 @@ pub fn counts_as(level: u8, mark: Mark) -> Option<bool>
     }
 }
 
-/// Whether a position of this status has care. It then counts at every other level.
+/// Whether a position of this status has care. If so, it counts at all odd levels or at all even
+/// ones while it keeps the status.
 pub fn has_care(mark: Mark) -> bool
     ensures { result ≡ has_care_of mark }
 {

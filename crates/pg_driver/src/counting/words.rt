@@ -88,7 +88,7 @@ fn count_at<E: Engine>(
 }
 
 /// Counts position `p` of a word, and adds it to the totals. Where its value is above the level and
-/// it counts by its status, the number of its window is noted.
+/// it counts by its status, the number of its window is noted. Only the contract reads `word`.
 fn count_position<E: Engine>(
     engine: &mut E,
     pass: Pass,

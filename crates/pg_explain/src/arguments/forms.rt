@@ -3,7 +3,7 @@
 use pg_types::{FOLDS_MAX, FOLDS_MIN, PRICE_MAX};
 use pg_words::limits::{COUNT_MAX, FOLDS_DIGITS, PRICE_DIGITS, SAMPLE_DIGITS, SEED_MAX};
 
-/// A number of a command.
+/// The numbers that an argument may be.
 #[derive(Clone, Copy)]
 pub(crate) struct Range {
     /// The most digits that it may have.

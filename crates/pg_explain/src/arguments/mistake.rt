@@ -1,7 +1,7 @@
 //! What is wrong with an argument of a command.
 
 /// What is said of a wrong argument, or of a missing one: a sentence in which `$0` is the command,
-/// `$1` to `$3` are these, and `$4` is the number.
+/// `$1` to `$3` are `first` to `third`, `$4` is `number`, and `$5` is `SETS_MAX`.
 #[derive(Clone, Copy)]
 pub(crate) struct Mistake<'a> {
     pub sentence: &'static str,

@@ -36,7 +36,7 @@ fn option_sentence(
     }
 }
 
-/// What is wrong with the name of a parameter file, of so many.
+/// What is wrong with the name of a parameter file, where `sets` of them are given.
 fn set_mistake(argument: &str, sets: usize) -> Option<Mistake<'_>> {
     if sets <= SETS_MAX {
         return name_mistake("PARAMS", argument, false);

@@ -1,4 +1,4 @@
-//! The usual causes of a refusal that lie in the whole file.
+//! The usual causes of a refusal that the bytes show without the letters of a table.
 
 use crate::chars::{has_minima, up_to};
 use crate::refused::letter_causes::push_letter_cause;

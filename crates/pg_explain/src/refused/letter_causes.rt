@@ -18,7 +18,7 @@ struct Cause {
     beside: char,
 }
 
-/// It is one byte, no UTF-8, and a letter of the table in Latin-1.
+/// It is one byte and no UTF-8. Read as Latin-1 it is a letter, which the table has in UTF-8.
 const LATIN1_LETTER: &str =
     "$1 is $4 in Latin-1, and $2 has it in UTF-8: convert $3, as by iconv -f LATIN1 -t UTF-8";
 

@@ -14,7 +14,8 @@ pub enum WriteError {
     /// The name leads to a regular file that was read or written before.
     #[error("the file was read or written before")]
     Kept,
-    /// The name is a link, and could not be followed to the file that it leads to.
+    /// The name begins a row of more than 40 links, or what it leads to changed from one call to
+    /// the next.
     #[error("the link could not be followed")]
     Unfollowed,
     /// Each name that a new file could have is taken.

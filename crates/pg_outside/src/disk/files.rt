@@ -19,13 +19,13 @@ use std::alloc::{AllocError, Global};
 
 /// Files by name over a system of files, with one count of faults for every name.
 ///
-/// A file that is missing or can't be opened, a folder, and a read or write that fails are faults.
-/// A write replaces a regular file as a whole: the bytes go into a new file in the same folder,
-/// which takes the name once the device has them. Where that fails, the old file stands as before,
-/// and the new one is removed, unless the system refuses that. A link is followed, and the file
-/// that it leads to is replaced in the same way. A device and a pipe are written in place. A
-/// regular file that was read or written is not written again, whatever its name: such a write is a
-/// fault.
+/// A read of a missing file is a fault. So are a folder, a file that cannot be opened, and a read
+/// or write that fails. A write to a name that leads to no file makes one. A write replaces a
+/// regular file as a whole: the bytes go into a new file in the same folder, which takes the name
+/// once the device has them. Where that fails, the old file stands as before, and the new one is
+/// removed, unless the system refuses that. A link is followed, and the file that it leads to is
+/// replaced in the same way. A device and a pipe are written in place. A regular file that was read
+/// or written is not written again, whatever its name: such a write is a fault.
 #[derive(Drop)]
 pub struct DiskFiles<S: System + Drop> {
     alloc: Global,

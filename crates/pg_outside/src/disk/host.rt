@@ -16,8 +16,8 @@ use std::{fs, io, rt};
 /// Real files by their paths. A call that a signal interrupts goes on.
 pub type HostFiles<R> = DiskFiles<HostSystem<R>>;
 
-/// The calls of the system on real files. They tell no content, count the calls that failed, and
-/// keep why the last of these did.
+/// The calls of the system on real files. They tell no content. They count the calls that failed,
+/// and keep the last reason that the system gave.
 #[derive(Drop)]
 pub struct HostSystem<R: rt::Files + Drop> {
     system: R,
@@ -72,7 +72,9 @@ impl<R: rt::Files + Drop> HostSystem<R> {
         }
     }
 
-    /// Why the last call that failed did so, where the system said why.
+    /// The last reason that the system gave for a failed call; none where it gave none. A failure
+    /// without a reason leaves the older one: a write that took no byte, and a link whose text is
+    /// not UTF-8 or could not be copied.
     pub fn reason(&self) -> Option<io::Error>
         ensures { result ≡ self.now.reason }
     {

@@ -22,22 +22,29 @@ impl From<io::Error> for CallFailed {
 /// Which file this is, whatever its name.
 #[derive(Clone, Copy, PartialEq, Eq)]
 pub struct FileId {
+    /// The device that the file is on.
     pub device: u64,
+    /// Its number on that device.
     pub inode: u64,
 }
 
 /// What a name is, before a link is followed.
 #[derive(Clone, Copy)]
 pub enum NameKind {
+    /// Nothing has this name.
     Missing,
+    /// A symbolic link.
     Link,
+    /// Anything else, as a file or a folder.
     File(FileId),
 }
 
 /// What the system says of an opened file.
 #[derive(Clone, Copy)]
 pub struct FileStatus {
+    /// Which file it is.
     pub id: FileId,
+    /// Whether it is a regular file, and no folder, device or pipe.
     pub is_regular: bool,
     /// Its permissions, as bits.
     pub mode: u32,
@@ -48,6 +55,7 @@ pub struct FileStatus {
 /// Each call is one call of the operating system. Where the disk is told, a call that may change it
 /// adds the disk before it to the past. Any other leaves the disk and its past as they are.
 pub trait System {
+    /// An opened file.
     type File: Drop;
 
     ghost told: { Self → Option DiskHistory };

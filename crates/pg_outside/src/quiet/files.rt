@@ -11,7 +11,8 @@ use crate::memory::stored::{StoredFile, bytes_of, read_bytes, store};
 use crate::outside::{Failed, Files, ReadError};
 use std::alloc::{AllocError, Global};
 
-/// Files in memory whose reads and writes never fail: their counts of faults are always 0.
+/// Files in memory whose writes always succeed and whose reads never answer `Failed`. So their
+/// counts of faults are always 0. A read may still answer `TooLong` or `Memory`.
 ///
 /// It tells its files until a name is read that is not there, or a write finds no memory. From then
 /// on it tells nothing.
@@ -104,7 +105,7 @@ impl Files for QuietFiles {
         ensures missing_bytes { LacksFile self.old name.now → into.new.items ≡ [] }
         ensures missing_ends { LacksFile self.old name.now → is_telling self.new ≡ false }
 
-        // A read never fails, and one of a name that is there changes nothing.
+        // No read answers `Failed`, and one of a name that is there changes nothing.
         ensures quiet { IsErrOf result ReadError.Failed → ⊥ }
         ensures found { StoresFile self.old name.now → StaysTelling self.old self.new }
         ensures files { quiet_files_of self.new ≡ quiet_files_of self.old }

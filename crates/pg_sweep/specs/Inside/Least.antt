@@ -1,8 +1,8 @@
 -- The winner among costs, found in one walk.
 use Rattle.std.specs.Prelude.{ℕ, ◌+◌, nat_lt, if◌then◌else◌, List, [], ◌∷◌}
 
--- the winner among all costs: of those before it is `best`, which costs `least`, and the first of
--- these has this number
+-- the winner among all costs: among those before these it is `best`, which costs `least`. The first
+-- of these has this number
 abbrev pub winner_from : ℕ → ℕ → ℕ → List ℕ → ℕ
 winner_from best least number [] = best
 winner_from best least number (cost ∷ costs) =

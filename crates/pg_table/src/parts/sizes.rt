@@ -12,7 +12,9 @@ use pg_types::packed_table::{CELL_LEN, HEAD_LEN, RECORD_LEN, SIGNATURE, TABLE_MA
 pub struct Sizes {
     /// The greatest sign.
     pub signs: u32,
+    /// How many cells there are, cell 0 included.
     pub cells: u32,
+    /// How many records there are.
     pub records: u32,
 }
 

@@ -18,7 +18,7 @@ use Rattle.pg_words.specs.declared.limits.TheConstants.{COUNT_MAX}
 use Rattle.pg_translate.proofs.DefaultRules.{default_keeps}
 use Rattle.pg_top.proofs.sample.SampleWords.{sample_accepted}
 
--- a reader that accepts fails for want of memory alone
+-- a reader that accepts fails for a shortage of memory alone
 pub only_memory : {Y : Type 0} (error : ReadingError) (got : Result Y Refusal) (y : Y) → got ≡ Ok y → Fails error got → error ≡ reader.Memory
 only_memory (reader.Refused refusal) got y accepted fails = cc
 only_memory reader.Memory got y accepted fails = refl

@@ -76,7 +76,7 @@ fn compare_file<'a, F: Files, W: Watch>(
     Ok(verdict)
 }
 
-/// The given file with the number `i`, counted from 0.
+/// The wanted file with the number `i`, counted from 0.
 fn wanted_at<'a, 'b>(wanted: &'b [SelectedFile<'a>], i: usize) -> &'b SelectedFile<'a>
     requires { i < length wanted.now }
     ensures { slice_get wanted.now i ≡ Some result.now }

@@ -34,7 +34,7 @@ pub fn push_work(lines: &mut Vec<u8>, passes: u64, layout: &Layout) -> Result<()
     push_layout(lines, layout)
 }
 
-/// Appends the work line of a run.
+/// Appends the work line of a run. Only the contract reads `inputs`.
 fn push_end(lines: &mut Vec<u8>, run: &Run, inputs: &Inputs) -> Result<(), AllocError>
     requires told { TellsSelection inputs.now run.now }
     requires cells { TellsCells (Some (selected_cells inputs.now)) run.now }

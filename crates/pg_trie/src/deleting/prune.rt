@@ -33,7 +33,7 @@ fn remove_blank(cells: &mut Cells<Head>, parent: usize, cell: usize, before: Sig
 }
 
 // Takes away the cells of all strings that go on from the cell's string and have no list, where no
-// string that stays goes on from them. A string below it has at most so many signs more.
+// string that stays goes on from them. A string below it has at most `more` signs more.
 fn prune_below(cells: &mut Cells<Head>, cell: usize, more: usize)
     requires held { AreValuedFamilies cells.old }
     requires short { HasShortStrings cells.old }

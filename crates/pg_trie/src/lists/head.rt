@@ -43,7 +43,8 @@ impl Head {
     }
 }
 
-/// The number of a head in four bytes. Refused: there are more records than four bytes can number.
+/// The number of a head in four bytes. It is an error where there are more records than four bytes
+/// can number.
 pub fn in_four_bytes(number: u64) -> Result<u32, AllocError>
     ensures { IfOk result (λ word. word ≡ number) }
 {

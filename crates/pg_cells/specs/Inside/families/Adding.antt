@@ -21,7 +21,7 @@ pub record CanTakeSign (signs : ℕ) (fs : Families) (parent s : ℕ) : Type 0 w
   pub high : s ≤ signs
 
 module _ {V E : Type 0} where
-  -- s is added below the string that has the cell `parent`, with a value; or, refused, nothing is
+  -- s is added below the string that has the cell `parent`, with a value; after an error nothing is
   pub record AddsSign (few : ℕ) (old new : ValuedFamilies V) (parent s : ℕ) (v : V)
       (result : Result ℕ E) : Type 0 where
     -- the families are placed by their rule, and the longer string has the value

@@ -1,4 +1,4 @@
--- What is so when the cells of a family were collected, given up, and put at another base.
+-- What holds after the cells of a family are collected, given up, and put at another base.
 use Rattle.std.specs.Prelude.{◌≡◌, ◌≢◌, ℕ, ◌+◌, ◌<◌, ◌≤◌, ◌⊎◌, max, true, false, List, [], ◌∷◌, ◌++◌, length, take, get_or, slice_get, None, Some}
 use Rattle.pg_cells.specs.declared.store.fit.Slot.{Slot}
 use Rattle.pg_cells.specs.declared.store.member.Member.{Member}

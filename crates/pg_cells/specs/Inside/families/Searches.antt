@@ -1,6 +1,6 @@
 -- The lowest base that is tried for a family. A family of at most `few` signs is sought from base 1
--- on, and a larger one near the greatest taken cell. With the 4 of patterns this is the rule of
--- patterns. With 0 each family is placed near the greatest taken cell.
+-- on, and a larger one near the greatest taken cell. With `few` = `FEW_SIGNS` this is
+-- `lowest_base`, the rule for patterns. With 0 each family is placed near the greatest taken cell.
 use Rattle.std.specs.Prelude.{ℕ, ◌-◌, max, if◌then◌else◌, nat_eq, nat_le}
 use Rattle.pg_types.specs.declared.limits.TheConstants.{FAR_BELOW}
 use Rattle.pg_cells.specs.declared.families.place.TheConstants.{NEAR_BELOW}

@@ -43,7 +43,7 @@ module _ {V : Type 0} where
     pub value_is : slice_get new.values cell ≡ Some value
     pub count : taken_in new ≡ taken_in old
 
-  -- it was set whether an index is a base, and nothing else changed
+  -- an index was marked as a base or as none, and nothing else changed
   pub record SetsBase (old new : Row V) (base : ℕ) (flag : Bool) : Type 0 where
     pub signs : (j : ℕ) → sign_at new j ≡ sign_at old j
     pub children : (j : ℕ) → child_at new j ≡ child_at old j

@@ -1,5 +1,5 @@
--- A line read item by item, with the last mark and the last number so far. It gives what Words says
--- of the gaps.
+-- A line read item by item, with the last mark and the last number so far. It gives the words that
+-- DictionaryWords defines by gaps.
 use Rattle.std.specs.Prelude.{ℕ, List, [], ◌∷◌, None, Some}
 use Rattle.pg_types.specs.declared.limits.TheConstants.{EDGE}
 use Rattle.pg_types.specs.declared.marks.Mark.{Mark}

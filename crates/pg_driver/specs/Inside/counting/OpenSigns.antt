@@ -62,7 +62,7 @@ abbrev pub has_care : Mark → Bool
 has_care DontCare = false
 has_care other = true
 
--- a position counts at some level, and so at every other one: it is in reach and has care
+-- by its status a position counts at odd levels or at even ones: it is in reach and has care
 abbrev pub takes_part : Minima → Word → ℕ → Bool
 takes_part m w p = is_in_reach m w p && slice_index_or w.cares p true
 

@@ -138,13 +138,13 @@ good_raised raised counted = sum_by (λ c. c.good) (filter raised (with_sums cou
 abbrev pub bad_raised : (Candidate → Bool) → List CountedPosition → ℕ
 bad_raised raised counted = sum_by (λ c. c.bad) (filter raised (with_sums counted))
 
--- at a level that finds, the good that is raised is missed no more, and the bad becomes errors
+-- at an odd level, the good that is raised is missed no more, and the bad becomes errors
 pub record FindsMore (old new : Totals) (good bad : ℕ) : Type 0 where
   pub found : new.good ≡ old.good + good
   pub errors : new.bad ≡ old.bad + bad
   pub missed : new.missed + good ≡ old.missed
 
--- at a level that prevents, the good that is raised is an error no more, and the bad is missed
+-- at an even level, the good that is raised is an error no more, and the bad is missed
 pub record PreventsMore (old new : Totals) (good bad : ℕ) : Type 0 where
   pub found : new.good + bad ≡ old.good
   pub errors : new.bad + good ≡ old.bad

@@ -29,7 +29,7 @@ pub record OnlyReads (old new : FilesShown) : Type 0 where
   pub reads : NoneFell old.read_faults new.read_faults
   pub writes : NoneFell old.write_faults new.write_faults
 
--- why a command stops: a refusal or an unread file of which the tests hold, or want of memory
+-- why a command stops: a refusal or an unread file of which the tests hold, or a shortage of memory
 abbrev pub StopsBy : (Outcome → Type 0) → (List ℕ → Type 0) → Stop → Type 0
 StopsBy Refuses CannotRead (Refused input refusal) = Refuses (refuses input refusal)
 StopsBy Refuses CannotRead (Unread name) = CannotRead name.now

@@ -1,4 +1,4 @@
--- That nothing but a fault or want of memory keeps a call from the answer of its outcome.
+-- That nothing but a fault or a shortage of memory keeps a call from the answer of its outcome.
 use Rattle.std.specs.Prelude.{◌≡◌, Any, ◌⊎◌}
 use Rattle.pg_outside.specs.Content.{file_at}
 use Rattle.pg_outside.specs.Faults.{Rose}

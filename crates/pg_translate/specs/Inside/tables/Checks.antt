@@ -83,7 +83,7 @@ before_empty [] = []
 before_empty ([] ∷ pieces) = []
 before_empty ((b ∷ bs) ∷ pieces) = (b ∷ bs) ∷ before_empty pieces
 
--- the spellings in what follows the delimiter at a letter line's begin
+-- the spellings in what stands behind the delimiter that begins a letter line
 abbrev pub pieces_of : ℕ → List ℕ → List (List ℕ)
 pieces_of delimiter text = before_empty (pieces_at (λ b. b == delimiter) text)
 
