@@ -230,7 +230,7 @@ impl<'a> Asked<'a> {
                 let table = table_for(line.keyword, table);
                 self.said_refused(name_of(line.keyword), bytes, refusal, table)
             }
-            None if line.keyword.is(Keyword::Patterns) => self.explained(&Wrong::Behind {
+            None if line.keyword == Keyword::Patterns => self.explained(&Wrong::Behind {
                 patterns: "p.pat",
                 bytes,
             }),

@@ -180,7 +180,7 @@ fn list_fault(want: &Line<'_>, files: &mut MemoryFiles, out: &mut MemorySink) ->
     let (number, keep) = want.rest.split_once(" keeps ").unwrap_or((want.rest, ""));
     let number = u64::from(number_of(number)?);
     let keep = keep_of(keep)?;
-    if want.keyword.is(Keyword::FailsPut) {
+    if want.keyword == Keyword::FailsPut {
         Ok(out.fail_at(number, keep)?)
     } else {
         Ok(files.fail_at(number, keep)?)

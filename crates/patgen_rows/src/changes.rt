@@ -9,21 +9,32 @@ pub(crate) struct Change<'a> {
     pub line: usize,
 }
 
-/// Appends the changes of the bytes of a line, which stands from `start` up to `end`: the lowest
-/// bit of each is changed.
+/// The bytes of a file from `start` up to `end`, which stand in the line with this number.
+#[derive(Clone, Copy)]
+struct Place {
+    start: usize,
+    end: usize,
+    line: usize,
+}
+
+/// Appends the changes of the bytes of a line: the lowest bit of each is changed.
 fn push_byte_changes<'a>(
     changes: &mut Vec<Change<'a>>,
     alloc: Global,
     name: &'a str,
     file: &[u8],
-    place: [usize; 3],
+    whole: Place,
 ) -> Result<(), AllocError> {
-    let [start, end, line] = place;
-    let text = file.get(start..end).unwrap_or(&[]);
+    let text = file.get(whole.start..whole.end).unwrap_or(&[]);
     for (index, byte) in text.iter().enumerate() {
-        let at = start.saturating_add(index);
-        let change = [at, at.saturating_add(1), line];
-        changes.push(changed(alloc, name, file, change, &[*byte ^ 1])?)?;
+        let start = whole.start.saturating_add(index);
+        let end = start.saturating_add(1);
+        let place = Place {
+            start,
+            end,
+            ..whole
+        };
+        changes.push(changed(alloc, name, file, place, &[*byte ^ 1])?)?;
     }
     Ok(())
 }
@@ -41,24 +52,29 @@ pub(crate) fn push_changes<'a>(
     for text in file.split_inclusive(|byte| *byte == b'\n') {
         line = line.saturating_add(1);
         let end = start.saturating_add(text.len());
-        push_byte_changes(changes, alloc, name, file, [start, end, line])?;
-        changes.push(changed(alloc, name, file, [start, end, line], b"")?)?;
-        let change = [start, start, line.saturating_add(1)];
-        changes.push(changed(alloc, name, file, change, text)?)?;
+        let whole = Place { start, end, line };
+        push_byte_changes(changes, alloc, name, file, whole)?;
+        changes.push(changed(alloc, name, file, whole, b"")?)?;
+        let second = Place {
+            start,
+            end: start,
+            line: line.saturating_add(1),
+        };
+        changes.push(changed(alloc, name, file, second, text)?)?;
         start = end;
     }
     Ok(())
 }
 
-/// A file with other bytes in place of those from `start` up to `end`, which is a change of a line.
+/// A file with other bytes at a place, which is a change of the line there.
 fn changed<'a>(
     alloc: Global,
     name: &'a str,
     file: &[u8],
-    change: [usize; 3],
+    place: Place,
     by: &[u8],
 ) -> Result<Change<'a>, AllocError> {
-    let [start, end, line] = change;
+    let Place { start, end, line } = place;
     let mut bytes = file.get(..start).unwrap_or(file).to_vec(alloc)?;
     bytes.extend_from_slice(by)?;
     bytes.extend_from_slice(file.get(end..).unwrap_or(&[]))?;

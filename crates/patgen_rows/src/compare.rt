@@ -13,7 +13,7 @@ pub(crate) fn compare_call(text: &mut String, case: &Case<'_>, call: &Call<'_>) 
     let mut is_status_wanted = false;
     let mut are_prints_wanted = false;
     for want in call.wants.iter() {
-        is_status_wanted |= want.keyword.is(Keyword::Status);
+        is_status_wanted |= want.keyword == Keyword::Status;
         are_prints_wanted |= want.keyword.is_of_prints();
         compare_want(text, case, want, call.is_behind)?;
     }

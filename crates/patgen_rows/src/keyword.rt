@@ -1,7 +1,7 @@
 //! The keywords with which lines and pieces begin.
 
 /// What a line says, or what a piece is made of.
-#[derive(Clone, Copy)]
+#[derive(Clone, Copy, PartialEq, Eq)]
 pub(crate) enum Keyword {
     // Above the calls of a row, or above the first row.
     Row,
@@ -123,11 +123,6 @@ pub(crate) fn keyword_of(text: &str) -> Option<Keyword> {
 }
 
 impl Keyword {
-    /// Whether it is this one.
-    pub fn is(self, other: Keyword) -> bool {
-        self as u8 == other as u8
-    }
-
     /// Whether a piece begins with it.
     pub fn begins_piece(self) -> bool {
         matches!(

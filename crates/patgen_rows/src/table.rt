@@ -40,16 +40,16 @@ pub(crate) struct Call<'a> {
 fn call_below<'a>(alloc: Global, line: Line<'a>, above: Option<&Call<'a>>) -> io::Result<Call<'a>> {
     let mut call = Call {
         line,
-        is_behind: line.keyword.is(Keyword::Then),
+        is_behind: line.keyword == Keyword::Then,
         wants: Vec::new(alloc),
     };
     match above {
-        Some(above) if line.keyword.is(Keyword::Also) => {
+        Some(above) if line.keyword == Keyword::Also => {
             call.is_behind = above.is_behind;
             call.wants.extend_from_slice(&above.wants)?;
             Ok(call)
         }
-        None if !line.keyword.is(Keyword::Call) => {
+        None if line.keyword != Keyword::Call => {
             Err(io::Error::other("the line stands below no call"))
         }
         _ => Ok(call),
@@ -78,7 +78,7 @@ impl<'a> Row<'a> {
     /// The line above the calls that begins with this keyword.
     pub fn find(&self, keyword: Keyword) -> Option<&Line<'a>> {
         for line in self.lines.iter() {
-            if line.keyword.is(keyword) {
+            if line.keyword == keyword {
                 return Some(line);
             }
         }
@@ -178,7 +178,7 @@ impl<'a> Table<'a> {
 
     /// Begins the content of a line, whose first piece may stand behind the colon.
     fn begin_content(&mut self, line: &Line<'a>) -> io::Result<()> {
-        let name = if line.keyword.is(Keyword::Content) {
+        let name = if line.keyword == Keyword::Content {
             line.name
         } else {
             ""

@@ -1,6 +1,13 @@
 //! A slow list of the cells of families.
-use pg_types::{FAR_BELOW, FEW_SIGNS, Sign};
+use pg_types::Sign;
 use std::alloc::{AllocError, Global};
+
+/// A family of at most this many signs is placed from base 1 on. The number stands here once more,
+/// so that the list does not take it from the code under test.
+const FEW: usize = 4;
+
+/// How far below the greatest taken cell the places of a greater family begin, at least.
+const FAR: usize = 255;
 
 /// No family.
 pub const NONE: usize = usize::MAX;
@@ -16,8 +23,7 @@ pub struct FamilyCell {
     pub family: usize,
 }
 
-/// The cells of a table with so many signs. Up to [`FEW_SIGNS`] signs of a family are placed from
-/// base 1 on.
+/// The cells of a table whose greatest sign is `signs`.
 #[derive(Drop)]
 pub struct Families {
     alloc: Global,
@@ -158,11 +164,10 @@ impl Families {
     /// The lowest base that is tried for so many signs.
     fn lowest_base(&self, count: usize, cells: &[usize]) -> usize {
         let top = cells.last().copied().unwrap_or(0);
-        if count <= FEW_SIGNS {
+        if count <= FEW {
             return 1;
         }
-        top.saturating_sub(usize::from(self.signs).max(FAR_BELOW))
-            .max(1)
+        top.saturating_sub(usize::from(self.signs).max(FAR)).max(1)
     }
 
     /// The least base that no other family has and where the signs' cells are none of these.

@@ -226,7 +226,8 @@ pub trait SameFile {
     fn is_same(&self, one: &str, other: &str) -> bool;
 }
 
-/// The fault of the last of these calls, if it failed; else that of a put.
+/// The fault of the last of these calls, if it failed; else that of a put. A write may have failed
+/// since its file was read or written before.
 fn fault_of<'b, S: SameFile>(
     calls: &'b [Call],
     failed: bool,
@@ -238,7 +239,10 @@ fn fault_of<'b, S: SameFile>(
             deed: last.deed,
             name: &last.name,
             reason: reasons.files,
-            before: before_of(earlier, last, same),
+            before: match last.deed {
+                Deed::Writing => before_of(earlier, last, same),
+                Deed::Reading | Deed::Printing => None,
+            },
         },
         _ => Fault {
             deed: Deed::Printing,

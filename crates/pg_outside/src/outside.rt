@@ -5,7 +5,6 @@ ghost use Rattle.pg_outside.specs.Inside.ToldFiles.{IsReadOf, IsWriteOf};
 ghost use Rattle.pg_outside.specs.Faults.{next_count, Rose};
 
 use std::alloc::{AllocError, Global};
-use std::io;
 use thiserror::Error;
 
 /// Why a read gave no file.
@@ -32,26 +31,10 @@ impl From<AllocError> for ReadError {
     }
 }
 
-impl From<io::Error> for ReadError {
-    ghost use Rattle.pg_outside.specs.declared.outside.ReadError.TheVariants.{Failed};
-
-    ghost from_gives = { λ _ error. error ≡ Failed };
-
-    fn from(_error: io::Error) -> ReadError {
-        ReadError::Failed
-    }
-}
-
 /// A write or a put failed; the count of faults rose.
 #[derive(Clone, Copy, Debug, PartialEq, Eq, Error)]
 #[error("the bytes could not be written")]
 pub struct Failed;
-
-impl From<io::Error> for Failed {
-    fn from(_error: io::Error) -> Failed {
-        Failed
-    }
-}
 
 /// Files that are read and written whole, by name.
 ///

@@ -1,7 +1,7 @@
 -- Which calls a command makes on files, in their order, and how many on the sink.
 use Rattle.std.specs.Prelude.{◌≡◌, ℕ, zero, suc, ◌+◌, ◌<◌, ◌≤◌, List, ◌++◌, length, map, take, None, Some, IfSome, ◌⊎◌}
 use Rattle.pg_outside.specs.Content.{FilesShown, SinkShown, file_at}
-use Rattle.pg_outside.specs.Faults.{next_count}
+use Rattle.pg_outside.specs.Faults.{Rose, next_count}
 use Rattle.pg_outside.specs.FilesCalls.{FilesCall, Reads, Writes}
 use Rattle.pg_steps.specs.Moments.{Moment}
 use Rattle.pg_steps.specs.Readings.{HeldFiles, Reading, first_end}
@@ -26,9 +26,10 @@ read_calls reads = map (λ r. Reads r.name) reads
 abbrev pub MakesPuts : SinkShown → SinkShown → ℕ → Type 0
 MakesPuts old new puts = new.puts ≡ after_calls old.puts puts
 
--- a fault line was put, in three parts at most
+-- a fault line was put in its three parts, or the first or second of them could not be put
 abbrev pub PutsFault : SinkShown → SinkShown → Type 0
-PutsFault old new = (puts : ℕ) × (1 ≤ puts) × (puts ≤ 3) × MakesPuts old new puts
+PutsFault old new = MakesPuts old new 3
+    ⊎ (Rose old.faults new.faults × (MakesPuts old new 1 ⊎ MakesPuts old new 2))
 
 -- the files before an index of the order were read, each once, and none of them ends the call
 pub record ReadsUpTo (reads : List Reading) (at : ℕ) (old new : FilesShown) : Type 0 where

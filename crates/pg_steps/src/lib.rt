@@ -13,7 +13,7 @@ pub use answers::{Status, exit_code};
 pub use inputs::{Given, Input, Stop};
 pub use puts::{answer, put_stop};
 pub use reading::{
-    read_dictionary, read_front, read_lists, read_parameters, read_start, read_table, refuse,
+    read_dictionary, read_front, read_lists, read_parameters, read_patterns, read_table, refuse,
 };
 pub use refused::push_label;
 pub use writes::{BuiltTexts, OutputFile, end, push_file};

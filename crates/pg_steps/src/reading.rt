@@ -119,7 +119,7 @@ pub fn read_parameters<'a, F: Files, W: Watch>(
 }
 
 /// Reads a pattern file under a table.
-pub fn read_start<'a, F: Files, W: Watch>(
+pub fn read_patterns<'a, F: Files, W: Watch>(
     alloc: Global,
     table: &Table,
     name: &'a str,
@@ -180,7 +180,7 @@ pub fn read_lists<'a, F: Files, W: Watch>(
         → IfErr result (StopsReading (lists_under translate patterns.now dict.now)
         (F.shown files.old) (F.shown files.new)) }
 {
-    let start = read_start(alloc, table, patterns, files, watch)?;
+    let start = read_patterns(alloc, table, patterns, files, watch)?;
     let dictionary = read_dictionary(alloc, table, dict, files, watch)?;
     Ok((start, dictionary))
 }

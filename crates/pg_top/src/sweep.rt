@@ -19,14 +19,14 @@ use pg_watch::Watch;
 use pg_words::SweepWords;
 use std::alloc::Global;
 
-/// Tells the observer of the set whose first level is the lowest. If this level is above the values
-/// of the starting patterns, so is the first level of every set.
+/// Tells the observer of the set whose first level is the lowest among those that run a level. If
+/// this level is above the values of the starting patterns, so is the first level of every set.
 fn tell_lowest<W: Watch>(name: &str, sets: &[Params], start: &PatternSet, watch: &W)
     requires { 1 ≤ length sets.now }
 {
     let mut lowest = &sets[0];
     for params in sets {
-        if params.start() < lowest.start() {
+        if params.count() > 0 && (lowest.count() == 0 || params.start() < lowest.start()) {
             lowest = params;
         }
     }

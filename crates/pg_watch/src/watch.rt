@@ -72,7 +72,8 @@ pub trait Watch {
     fn refuses(&self, refused: &RefusedFile<'_>);
 
     /// A selection begins, with the patterns of the file of this name. `sweep` tells this once,
-    /// before its first run, with the parameters whose first level is the lowest.
+    /// before its first run, with the parameters whose first level is the lowest of those that run
+    /// one.
     fn selects(&self, name: &str, params: &Params, start: &PatternSet);
 
     /// A run of a sweep begins.

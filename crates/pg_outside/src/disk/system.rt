@@ -5,19 +5,12 @@ ghost use Rattle.pg_outside.specs.Faults.{Rose};
 ghost use Rattle.pg_outside.specs.Inside.disk.Disks.{DiskHistory, KeepsDisk, ChangesDisk, HoldsNow, MakesFile, AppendsBytes, AppendsFront, ChangesOnlyFile, SyncsFile, SetsMode, RenamesUnlessLink, RemovesUnlessLink, RefusesRemoval, IsNameTaken, IsKindOf, IsFollowedBy, IsOpened, IsWritable, LeadsToNone, IsStat, HasPiece, KnowsPlain, KnowsNewNames};
 
 use std::alloc::Global;
-use std::io;
 use thiserror::Error;
 
 /// A call of the system failed.
 #[derive(Clone, Copy, Debug, PartialEq, Eq, Error)]
 #[error("a call of the system failed")]
 pub struct CallFailed;
-
-impl From<io::Error> for CallFailed {
-    fn from(_error: io::Error) -> CallFailed {
-        CallFailed
-    }
-}
 
 /// Which file this is, whatever its name.
 #[derive(Clone, Copy, PartialEq, Eq)]

@@ -29,8 +29,7 @@ given_file inputs g = let ends : HeldFiles → List ℕ → Option Outcome = λ 
 -- the rule of `audit`, which reads what `generate` reads, and then the given files
 abbrev pub audit_rule : FileNames → CommandRule
 audit_rule n = record usual_rule {
-  reads = (generate_rule n).reads
-      ++ map (given_file (generate_inputs n)) (selected_names n);
+  reads = (generate_rule n).reads ++ map (given_file (generate_inputs n)) (selected_names n);
   answers = Yes ∷ No ∷ Refused ∷ Memory ∷ [];
   own_outcome = λ files. Ends Yes [] (codes "yes\n");
 }

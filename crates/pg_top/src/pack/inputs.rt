@@ -9,7 +9,7 @@ ghost use Rattle.pg_steps.specs.Inside.reading.ReadsMade.{ReadsFiles};
 
 use pg_outside::Files;
 use pg_patterns::PatternSet;
-use pg_steps::{Stop, read_start, read_table};
+use pg_steps::{Stop, read_patterns, read_table};
 use pg_translate::Table;
 use pg_watch::Watch;
 use pg_words::PackNames;
@@ -38,6 +38,6 @@ pub fn read_pack<'a, F: Files, W: Watch>(
         (λ source. SignsUpTo (letters_of source.table + 1) source.patterns) }
 {
     let table = read_table(alloc, names.translate, files, watch)?;
-    let patterns = read_start(alloc, &table, names.patterns, files, watch)?;
+    let patterns = read_patterns(alloc, &table, names.patterns, files, watch)?;
     Ok(PackInputs { table, patterns })
 }

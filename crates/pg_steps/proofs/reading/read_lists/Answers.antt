@@ -13,8 +13,8 @@ use Rattle.pg_steps.proofs.reading.read_lists.Goals as goal
 pub returns-in_err-start : goal.returns-in_err-start
 returns-in_err-start g c =
     let s0 : FilesShown = g.F.Files.shown c.args.files.now in
-    let s1 : FilesShown = g.F.Files.shown c.read_start.new.files in
-    let read = c.read_start.ensures.read in
+    let s1 : FilesShown = g.F.Files.shown c.read_patterns.new.files in
+    let read = c.read_patterns.ensures.read in
     let r = c.from_residual.result in
     let is = c.from_residual.ensures.1 in
     record {
@@ -29,9 +29,9 @@ returns-in_err-start g c =
 pub returns-in_err-dictionary : goal.returns-in_err-dictionary
 returns-in_err-dictionary g c =
     let s0 : FilesShown = g.F.Files.shown c.args.files.now in
-    let s1 : FilesShown = g.F.Files.shown c.read_start.new.files in
+    let s1 : FilesShown = g.F.Files.shown c.read_patterns.new.files in
     let s2 : FilesShown = g.F.Files.shown c.read_dictionary.new.files in
-    let first = c.read_start.ensures.read in
+    let first = c.read_patterns.ensures.read in
     let then = c.read_dictionary.ensures.read in
     let r = c.from_residual-in_err-dictionary.result in
     let is = c.from_residual-in_err-dictionary.ensures.1 in
@@ -48,9 +48,9 @@ returns-in_err-dictionary g c =
 pub returns : goal.returns
 returns g c =
     let s0 : FilesShown = g.F.Files.shown c.args.files.now in
-    let s1 : FilesShown = g.F.Files.shown c.read_start.new.files in
+    let s1 : FilesShown = g.F.Files.shown c.read_patterns.new.files in
     let s2 : FilesShown = g.F.Files.shown c.read_dictionary.new.files in
-    let first = c.read_start.ensures.read in
+    let first = c.read_patterns.ensures.read in
     let then = c.read_dictionary.ensures.read in
     record {
       only = only_on s0 s1 s2 first.only then.only;

@@ -33,11 +33,11 @@ pub returns-in_err-patterns : goal.returns-in_err-patterns
 returns-in_err-patterns g c =
     let s0 : FilesShown = g.F.Files.shown c.args.files.now in
     let s1 : FilesShown = g.F.Files.shown c.read_table.new.files in
-    let s2 : FilesShown = g.F.Files.shown c.read_start.new.files in
+    let s2 : FilesShown = g.F.Files.shown c.read_patterns.new.files in
     let t = c.args.names.now.translate.now in
     let P = c.args.names.now.patterns.now in
     let first = c.read_table.ensures in
-    let then = c.read_start.ensures.read in
+    let then = c.read_patterns.ensures.read in
     let calls = calls_on (Reads t ∷ []) (Reads P ∷ []) s0 s1 s2 first.calls then.calls in
     let r = c.from_residual-in_err-patterns.result in
     let is = c.from_residual-in_err-patterns.ensures.1 in
@@ -52,11 +52,11 @@ pub returns : goal.returns
 returns g c =
     let s0 : FilesShown = g.F.Files.shown c.args.files.now in
     let s1 : FilesShown = g.F.Files.shown c.read_table.new.files in
-    let s2 : FilesShown = g.F.Files.shown c.read_start.new.files in
+    let s2 : FilesShown = g.F.Files.shown c.read_patterns.new.files in
     let t = c.args.names.now.translate.now in
     let P = c.args.names.now.patterns.now in
     let first = c.read_table.ensures in
-    let then = c.read_start.ensures.read in
+    let then = c.read_patterns.ensures.read in
     record {
       read = record {
         only = only_on s0 s1 s2 first.only then.only;

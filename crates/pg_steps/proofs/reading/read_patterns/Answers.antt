@@ -6,7 +6,7 @@ use Rattle.pg_patterns.specs.Inside.PatternMaps.{SignsUpTo}
 use Rattle.pg_translate.specs.Alphabets.{letters_of}
 use Rattle.pg_steps.specs.declared.inputs.Input.TheVariants.{Patterns}
 use Rattle.pg_steps.proofs.Fronts.{start-front, input_read, input_known, input_stopped}
-use Rattle.pg_steps.proofs.reading.read_start.Goals as goal
+use Rattle.pg_steps.proofs.reading.read_patterns.Goals as goal
 
 pub returns : goal.returns
 returns g c =
