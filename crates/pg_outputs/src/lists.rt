@@ -71,7 +71,7 @@ impl Outputs {
         ensures added { Lacks self.old (record { value = value; dot = dot; next = next })
             → IfOk result (λ h. (h ≡ length self.old + 1)
             × (self.new ≡ self.old ++ record { value = value; dot = dot; next = next } ∷ [])) }
-        ensures record { IfOk result
+        ensures at_head { IfOk result
             (λ h. IsRecordOf self.new h (record { value = value; dot = dot; next = next })) }
         ensures adds { OnOk result ((self.new ≡ self.old)
             ⊎ (self.new ≡ self.old ++ record { value = value; dot = dot; next = next } ∷ [])) }
@@ -96,7 +96,7 @@ impl Outputs {
     pub fn first(&self, head: u64) -> Option<(u8, u8, u64)>
         requires { head ≤ length self.now }
         ensures none { IsNone result ↔ (head ≡ 0) }
-        ensures record { IfSome result (λ r.
+        ensures at_head { IfSome result (λ r.
             IsRecordOf self.now head (record { value = r.0; dot = r.1; next = r.2 })) }
         ensures list { MatchOption result (list_of self.now head ≡ [])
             (λ r. list_of self.now head ≡ (r.0, r.1) ∷ list_of self.now r.2) }

@@ -1,5 +1,5 @@
 pub mod DigitValues
 pub mod OtherArguments
 pub mod SweepParts
-pub mod TakenRequests
+pub mod AcceptedRequests
 pub mod ArgumentsAt

@@ -3,9 +3,9 @@ use Rattle.std.proofs.Common.{◌≡◌, ℕ, ◌<◌, ◌≤◌, nat_lt, nat_le
 use Rattle.std.proofs.lemmas.Bool.Decides.{nat_tests}
 use Rattle.std.specs.Option.{option_map}
 use Rattle.pg_words.specs.Requests.{ToSweep}
-use Rattle.pg_words.proofs.TakenRequests.{taken_as}
+use Rattle.pg_words.proofs.AcceptedRequests.{accepted_as}
 use Rattle.pg_words.specs.NumbersWithin.{number_within}
-use Rattle.pg_words.specs.TakenNames.{where_taken}
+use Rattle.pg_words.specs.AcceptedNames.{where_accepted}
 use Rattle.pg_words.specs.forms.Sweep.{sweep_in}
 use Rattle.pg_types.specs.declared.limits.TheConstants.{FOLDS_MAX, FOLDS_MIN, PRICE_MAX, SETS_MAX}
 use Rattle.pg_words.specs.declared.limits.TheConstants.{FOLDS_DIGITS, PRICE_DIGITS}
@@ -47,7 +47,7 @@ pub all_within : (dict patterns output translate k bad_argument missed_argument 
     ≡ Some folds → number_within PRICE_DIGITS 1 PRICE_MAX bad_argument ≡ Some bad → number_within PRICE_DIGITS 1 PRICE_MAX missed_argument ≡ Some missed
     → (nat_lt 0 (length params) && nat_le (length params) SETS_MAX) ≡ true
     → option_map ToSweep (sweep_in (dict ∷ patterns ∷ output ∷ translate ∷ k ∷ bad_argument ∷ missed_argument ∷ params))
-    ≡ where_taken (dict ∷ patterns ∷ translate ∷ params) (output ∷ []) (ToSweep (record {
+    ≡ where_accepted (dict ∷ patterns ∷ translate ∷ params) (output ∷ []) (ToSweep (record {
       dict = dict;
       patterns = patterns;
       output = output;
@@ -58,7 +58,7 @@ pub all_within : (dict patterns output translate k bad_argument missed_argument 
       params = params;
     }))
 all_within dict patterns output translate k bad_argument missed_argument params folds bad missed one two three count =
-    rw (one, two, three, count) (sym (taken_as ToSweep (dict ∷ patterns ∷ translate ∷ params) (output ∷ []) (record {
+    rw (one, two, three, count) (sym (accepted_as ToSweep (dict ∷ patterns ∷ translate ∷ params) (output ∷ []) (record {
       dict = dict;
       patterns = patterns;
       output = output;

@@ -1,4 +1,4 @@
-pub mod TakenNames
+pub mod AcceptedNames
 pub mod NumbersWithin
 pub mod forms
 pub mod Requests

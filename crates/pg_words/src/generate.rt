@@ -4,13 +4,13 @@ ghost use Rattle.std.specs.List.{list_all};
 ghost use Rattle.std.specs.Option.{option_map, is_none};
 ghost use Rattle.arrayvec.specs.ArrayVec.{array_vec_len};
 ghost use Rattle.pg_words.specs.Requests.{ToGenerate, ToAudit};
-ghost use Rattle.pg_words.specs.TakenNames.{is_name};
+ghost use Rattle.pg_words.specs.AcceptedNames.{is_name};
 ghost use Rattle.pg_words.specs.forms.Generate.{if_asked, input_names, output_names, with_option as with_option_of, with_options as with_options_of, files_in, generate_in, audit_in};
 ghost use Rattle.pg_words.specs.Inside.Names.{texts, arguments_of};
 ghost use Rattle.pg_words.specs.Inside.CommandRequests.{name_now, texts_of, asked_by, KeepsLimits};
 
 use crate::commands::{Command, Names};
-use crate::names::{are_all_names, where_taken};
+use crate::names::{are_all_names, where_accepted};
 use arrayvec::ArrayVec;
 
 /// How many outputs `generate` has at most.
@@ -142,7 +142,7 @@ pub fn generate(words: &[String]) -> Option<Command<'_>>
 {
     let names = names(words)?;
     let outputs = outputs_of(&names);
-    where_taken(
+    where_accepted(
         &inputs_of(&names),
         outputs.as_slice(),
         Command::Generate(names),

@@ -2,7 +2,7 @@
 ghost use Rattle.std.specs.Prelude.{◌≡◌, ◌&&◌, ◌++◌, IfSome};
 ghost use Rattle.std.specs.List.{list_all};
 ghost use Rattle.std.specs.Option.{option_map};
-ghost use Rattle.pg_words.specs.TakenNames.{is_name as is_name_of, outputs_differ, where_taken as where_taken_of};
+ghost use Rattle.pg_words.specs.AcceptedNames.{is_name as is_name_of, outputs_differ, where_accepted as where_accepted_of};
 ghost use Rattle.pg_words.specs.Inside.Names.{texts, differs_from};
 ghost use Rattle.pg_words.specs.Inside.CommandRequests.{asked_by, KeepsLimits};
 
@@ -50,28 +50,28 @@ fn do_outputs_differ(outputs: &[&str], inputs: &[&str]) -> bool
     }
 }
 
-/// Whether these names are taken: each can be a name, and each output name differs from the names
-/// of the other outputs and of the inputs.
-fn are_taken(inputs: &[&str], outputs: &[&str]) -> bool
+/// Whether a command accepts these names: each can be a name, and each output name differs from the
+/// names of the other outputs and of the inputs.
+fn are_accepted(inputs: &[&str], outputs: &[&str]) -> bool
     ensures { result ≡ list_all is_name_of (texts inputs.now ++ texts outputs.now)
         && outputs_differ (texts outputs.now) (texts inputs.now) }
 {
     are_all_names(inputs, outputs) && do_outputs_differ(outputs, inputs)
 }
 
-/// A command, where the names of its inputs and outputs are taken. That is, each can be a name, and
-/// each output name differs from the names of the other outputs and of the inputs.
-pub fn where_taken<'a>(
+/// A command, where it accepts the names of its inputs and outputs: each can be a name, and each
+/// output name differs from the names of the other outputs and of the inputs.
+pub fn where_accepted<'a>(
     inputs: &[&str],
     outputs: &[&str],
     command: Command<'a>,
 ) -> Option<Command<'a>>
     requires { KeepsLimits command }
     ensures value { option_map asked_by result
-        ≡ where_taken_of (texts inputs.now) (texts outputs.now) (asked_by command.entry) }
+        ≡ where_accepted_of (texts inputs.now) (texts outputs.now) (asked_by command.entry) }
     ensures within { IfSome result KeepsLimits }
 {
-    if are_taken(inputs, outputs) {
+    if are_accepted(inputs, outputs) {
         Some(command)
     } else {
         None

@@ -7,7 +7,7 @@ ghost use Rattle.pg_words.specs.Inside.Names.{arguments_of};
 ghost use Rattle.pg_words.specs.Inside.CommandRequests.{asked_by, KeepsLimits};
 
 use crate::commands::Command;
-use crate::names::where_taken;
+use crate::names::where_accepted;
 
 /// What the arguments behind `prune` ask for.
 pub fn prune(words: &[String]) -> Option<Command<'_>>
@@ -20,7 +20,7 @@ pub fn prune(words: &[String]) -> Option<Command<'_>>
     };
     let (dict, patterns, translate) = (dict.as_str(), patterns.as_str(), translate.as_str());
     let (output, report) = (output.as_str(), report.as_str());
-    where_taken(
+    where_accepted(
         &[dict, patterns, translate],
         &[output, report],
         Command::Prune {

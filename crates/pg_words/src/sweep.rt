@@ -2,14 +2,14 @@
 ghost use Rattle.std.specs.Prelude.{◌≡◌, ◌≤◌, [], ◌∷◌, length, IfSome};
 ghost use Rattle.std.specs.Option.{option_map};
 ghost use Rattle.pg_words.specs.Requests.{ToSweep};
-ghost use Rattle.pg_words.specs.TakenNames.{where_taken as where_taken_of};
+ghost use Rattle.pg_words.specs.AcceptedNames.{where_accepted as where_accepted_of};
 ghost use Rattle.pg_words.specs.forms.Sweep.{sweep_in};
 ghost use Rattle.pg_words.specs.Inside.Names.{texts, arguments_of};
 ghost use Rattle.pg_words.specs.Inside.CommandRequests.{asked_by, sweep_of, sweep_inputs, KeepsSweepLimits, KeepsLimits};
 
 use crate::commands::{Command, SweepWords};
 use crate::limits::{FOLDS_DIGITS, PRICE_DIGITS};
-use crate::names::where_taken;
+use crate::names::where_accepted;
 use crate::numbers::number_within;
 use arrayvec::ArrayVec;
 use pg_types::{FOLDS_MAX, FOLDS_MIN, PRICE_MAX, SETS_MAX};
@@ -36,13 +36,13 @@ fn inputs_of<'a>(words: &SweepWords<'a>) -> ArrayVec<&'a str, INPUTS_MAX>
 fn sweep_command(words: SweepWords<'_>) -> Option<Command<'_>>
     requires { KeepsSweepLimits words }
     ensures value { option_map asked_by result
-        ≡ where_taken_of (sweep_inputs (sweep_of words.entry))
+        ≡ where_accepted_of (sweep_inputs (sweep_of words.entry))
         (words.entry.output.now ∷ []) (ToSweep (sweep_of words.entry)) }
     ensures within { IfSome result KeepsLimits }
 {
     let inputs = inputs_of(&words);
     let outputs = [words.output];
-    where_taken(inputs.as_slice(), &outputs, Command::Sweep(words))
+    where_accepted(inputs.as_slice(), &outputs, Command::Sweep(words))
 }
 
 /// What the arguments behind `sweep` ask for.

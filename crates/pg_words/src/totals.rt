@@ -7,7 +7,7 @@ ghost use Rattle.pg_words.specs.Inside.Names.{arguments_of};
 ghost use Rattle.pg_words.specs.Inside.CommandRequests.{asked_by, KeepsLimits};
 
 use crate::commands::Command;
-use crate::names::where_taken;
+use crate::names::where_accepted;
 
 /// What the arguments behind `totals` ask for.
 pub fn totals(words: &[String]) -> Option<Command<'_>>
@@ -19,7 +19,7 @@ pub fn totals(words: &[String]) -> Option<Command<'_>>
         return None;
     };
     let (dict, translate, table) = (dict.as_str(), translate.as_str(), table.as_str());
-    where_taken(
+    where_accepted(
         &[dict, translate, table],
         &[],
         Command::Totals {

@@ -3,7 +3,7 @@ use Rattle.std.specs.Prelude.{ℕ, ◌&&◌, if◌then◌else◌, List, [], ◌�
 use Rattle.std.specs.List.{list_all}
 use Rattle.std.specs.Option.{option_and_then, option_map_or, is_none}
 use Rattle.std.specs.Str.{bytes_eq}
-use Rattle.pg_words.specs.TakenNames.{is_name, where_taken}
+use Rattle.pg_words.specs.AcceptedNames.{is_name, where_accepted}
 
 -- the names of `generate` and `audit` as bytes; that of an option is there where it is asked for
 pub record FileNames : Type 0 where
@@ -59,7 +59,7 @@ files_in words = None
 
 -- `generate DICT PATTERNS OUT TRANSLATE PARAMS REPORT`, then `--pattmp FILE` and `--cells FILE`
 abbrev pub generate_in : List (List ℕ) → Option FileNames
-generate_in words = option_and_then (λ n. where_taken (input_names n) (output_names n) n)
+generate_in words = option_and_then (λ n. where_accepted (input_names n) (output_names n) n)
     (files_in words)
 
 -- `audit` with the same names, which may be equal, and then `--pattmp FILE`

@@ -1,6 +1,6 @@
 -- The arguments of `prune`.
 use Rattle.std.specs.Prelude.{ℕ, List, [], ◌∷◌, Option, None}
-use Rattle.pg_words.specs.TakenNames.{where_taken}
+use Rattle.pg_words.specs.AcceptedNames.{where_accepted}
 
 -- the names of `prune` as bytes
 pub record PruneRequest : Type 0 where
@@ -12,6 +12,6 @@ pub record PruneRequest : Type 0 where
 
 -- `prune DICT PATTERNS OUT TRANSLATE REPORT`
 abbrev pub prune_in : List (List ℕ) → Option PruneRequest
-prune_in (d ∷ p ∷ o ∷ t ∷ r ∷ []) = where_taken (d ∷ p ∷ t ∷ []) (o ∷ r ∷ [])
+prune_in (d ∷ p ∷ o ∷ t ∷ r ∷ []) = where_accepted (d ∷ p ∷ t ∷ []) (o ∷ r ∷ [])
     (record { dict = d; patterns = p; output = o; translate = t; report = r })
 prune_in words = None

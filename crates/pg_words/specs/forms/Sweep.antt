@@ -3,7 +3,7 @@ use Rattle.std.specs.Prelude.{ℕ, nat_lt, nat_le, ◌&&◌, if◌then◌else◌
 use Rattle.std.specs.Option.{option_and_then}
 use Rattle.pg_types.specs.declared.limits.TheConstants.{FOLDS_MAX, FOLDS_MIN, PRICE_MAX, SETS_MAX}
 use Rattle.pg_words.specs.NumbersWithin.{number_within}
-use Rattle.pg_words.specs.TakenNames.{where_taken}
+use Rattle.pg_words.specs.AcceptedNames.{where_accepted}
 use Rattle.pg_words.specs.declared.limits.TheConstants.{FOLDS_DIGITS, PRICE_DIGITS}
 
 -- what `sweep` is asked for: its files, the number of folds, two prices, and the parameter files
@@ -22,7 +22,7 @@ abbrev pub sweep_in : List (List ℕ) → Option SweepRequest
 sweep_in (dict ∷ patterns ∷ output ∷ translate ∷ k ∷ bad_argument ∷ missed_argument ∷ params) =
     option_and_then (λ folds. option_and_then (λ bad. option_and_then (λ missed.
     if nat_lt 0 (length params) && nat_le (length params) SETS_MAX
-    then where_taken (dict ∷ patterns ∷ translate ∷ params) (output ∷ []) (record {
+    then where_accepted (dict ∷ patterns ∷ translate ∷ params) (output ∷ []) (record {
       dict = dict;
       patterns = patterns;
       output = output;

@@ -1,6 +1,6 @@
 -- The arguments of `totals`.
 use Rattle.std.specs.Prelude.{ℕ, List, [], ◌∷◌, Option, None}
-use Rattle.pg_words.specs.TakenNames.{where_taken}
+use Rattle.pg_words.specs.AcceptedNames.{where_accepted}
 
 -- the names of `totals` as bytes
 pub record TotalsRequest : Type 0 where
@@ -10,6 +10,6 @@ pub record TotalsRequest : Type 0 where
 
 -- `totals DICT TRANSLATE TABLE`, whose names may be equal
 abbrev pub totals_in : List (List ℕ) → Option TotalsRequest
-totals_in (dict ∷ translate ∷ table ∷ []) = where_taken (dict ∷ translate ∷ table ∷ []) []
+totals_in (dict ∷ translate ∷ table ∷ []) = where_accepted (dict ∷ translate ∷ table ∷ []) []
     (record { dict = dict; translate = translate; table = table })
 totals_in words = None

@@ -23,7 +23,7 @@ more old mid new rs head i r before place at pushed =
 pub loop-head-preserved : goal.loop-head-preserved
 loop-head-preserved c = elim c.match-first.branch [
   | in-Some+in_ok-push+in_ok-push-2+in_ok-push_u32 w ↦
-      let there = w.in-Some.ensures.record in
+      let there = w.in-Some.ensures.at_head in
       let mid : List ℕ = c.loop-head.text.items in
       let rest : List ℕ = u32_bytes w.in-Some.next in
       let pushed : w.push_u32.new.text.items ≡ mid ++ (w.in-Some.value ∷ w.in-Some.dot ∷ rest) =

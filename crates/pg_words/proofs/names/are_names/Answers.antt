@@ -2,7 +2,7 @@ use Rattle.std.proofs.Common.{◌∙◌, sym, rules, tests}
 use Rattle.std.proofs.lemmas.Iterator.{YieldsList-from_slice}
 use Rattle.std.proofs.lemmas.Iterator.Search.{all_from_yields_List}
 use Rattle.std.proofs.lemmas.List.Folds.{list_all-map}
-use Rattle.pg_words.specs.TakenNames.{is_name}
+use Rattle.pg_words.specs.AcceptedNames.{is_name}
 use Rattle.pg_words.proofs.names.are_names.Goals as goal
 
 pub returns : goal.returns

@@ -5,7 +5,7 @@ use Rattle.pg_words.specs.Inside.Names.{arguments_of}
 use Rattle.std.specs.Option.{option_map}
 use Rattle.pg_words.specs.Requests.{ToPack}
 use Rattle.pg_words.specs.forms.Pack.{pack_in}
-use Rattle.pg_words.proofs.TakenRequests.{taken_as}
+use Rattle.pg_words.proofs.AcceptedRequests.{accepted_as}
 use Rattle.pg_words.proofs.OtherArguments.{not_for_pack}
 use Rattle.pg_words.proofs.ArgumentsAt.{three_arguments}
 use Rattle.pg_words.proofs.pack.pack.Goals as goal
@@ -26,6 +26,6 @@ returns c =
     let parts = three_arguments c.args.words.now p t e c.in-len3.len_at_least c.in-len3.len_below (c.patterns-item.result, c.patterns-item.is, c.as_str-patterns.ensures.value)
     (c.translate-item.result, c.translate-item.is, c.as_str-translate.ensures.value) (c.table-item.result, c.table-item.is, c.as_str-table.ensures.value) in
     record {
-      value = c.where_taken.ensures.value ∙ taken_as ToPack (p ∷ t ∷ []) (e ∷ []) (record { patterns = p; translate = t; table = e }) ∙ ap (λ words. option_map ToPack (pack_in words)) (sym parts);
-      within = c.where_taken.ensures.within;
+      value = c.where_accepted.ensures.value ∙ accepted_as ToPack (p ∷ t ∷ []) (e ∷ []) (record { patterns = p; translate = t; table = e }) ∙ ap (λ words. option_map ToPack (pack_in words)) (sym parts);
+      within = c.where_accepted.ensures.within;
     }

@@ -5,7 +5,7 @@ use Rattle.pg_words.specs.Inside.Names.{arguments_of}
 use Rattle.std.specs.Option.{option_map}
 use Rattle.pg_words.specs.Requests.{ToPrune}
 use Rattle.pg_words.specs.forms.Prune.{prune_in}
-use Rattle.pg_words.proofs.TakenRequests.{taken_as}
+use Rattle.pg_words.proofs.AcceptedRequests.{accepted_as}
 use Rattle.pg_words.proofs.OtherArguments.{not_for_prune}
 use Rattle.pg_words.proofs.ArgumentsAt.{five_arguments}
 use Rattle.pg_words.proofs.prune.prune.Goals as goal
@@ -29,8 +29,8 @@ returns c =
     (c.patterns-item.result, c.patterns-item.is, c.as_str-patterns.ensures.value) (c.output-item.result, c.output-item.is, c.as_str-output.ensures.value)
     (c.translate-item.result, c.translate-item.is, c.as_str-translate.ensures.value) (c.report-item.result, c.report-item.is, c.as_str-report.ensures.value) in
     record {
-      value = c.where_taken.ensures.value
-          ∙ taken_as ToPrune (d ∷ p ∷ t ∷ []) (o ∷ r ∷ []) (record { dict = d; patterns = p; output = o; translate = t; report = r })
+      value = c.where_accepted.ensures.value
+          ∙ accepted_as ToPrune (d ∷ p ∷ t ∷ []) (o ∷ r ∷ []) (record { dict = d; patterns = p; output = o; translate = t; report = r })
           ∙ ap (λ words. option_map ToPrune (prune_in words)) (sym parts);
-      within = c.where_taken.ensures.within;
+      within = c.where_accepted.ensures.within;
     }

@@ -47,8 +47,8 @@ returns-clause-one_head c = one_head_each _ (inserted _ _ _ (record { value = c.
 pub returns-in_err-index-clause-shared : goal.returns-in_err-index-clause-shared
 returns-in_err-index-clause-shared c = rw c.in_err-index.ensures.err c.self.invariant
 
-pub returns-clause-record : goal.returns-clause-record
-returns-clause-record c =
+pub returns-clause-at_head : goal.returns-clause-at_head
+returns-clause-at_head c =
     let put = (inserted _ _ _ (record { value = c.args.value; dot = c.args.dot; next = c.args.next }) _ c.self.view_is c.self.invariant c.requires
     c.in_ok-index.ensures.keys c.in_ok-index.ensures.index) in
     (c.in_ok-index.index, c.head_at-2.ensures, put.at)

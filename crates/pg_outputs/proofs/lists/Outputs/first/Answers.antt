@@ -17,5 +17,5 @@ returns-clause-list c =
     subst (λ h. list_of c.args.self.now h ≡ (r.value, r.dot) ∷ list_of c.args.self.now r.next) head
     (subst (λ l. list_of l (c.in_ok-index.index + 1) ≡ (r.value, r.dot) ∷ list_of l r.next) c.self.view_is list)
 
-pub returns-clause-record : goal.returns-clause-record
-returns-clause-record c = search rules
+pub returns-clause-at_head : goal.returns-clause-at_head
+returns-clause-at_head c = search rules

@@ -1,4 +1,4 @@
--- Which names a command takes.
+-- Which names a command accepts.
 use Rattle.std.specs.Prelude.{ℕ, nat_lt, nat_eq, Bool, true, not, ◌&&◌, if◌then◌else◌, List, [], ◌∷◌, ◌++◌, length, Option, None, Some, codes}
 use Rattle.std.specs.List.{list_all, starts_with}
 use Rattle.std.specs.Str.{bytes_eq}
@@ -14,6 +14,6 @@ outputs_differ (output ∷ outputs) inputs = list_all (λ other. not (bytes_eq o
     (outputs ++ inputs) && outputs_differ outputs inputs
 
 -- what is asked for, where its names can be names, and each output differs from all other names
-abbrev pub where_taken : {X : Type 0} → List (List ℕ) → List (List ℕ) → X → Option X
-where_taken inputs outputs request = if list_all is_name (inputs ++ outputs)
+abbrev pub where_accepted : {X : Type 0} → List (List ℕ) → List (List ℕ) → X → Option X
+where_accepted inputs outputs request = if list_all is_name (inputs ++ outputs)
     && outputs_differ outputs inputs then Some request else None
