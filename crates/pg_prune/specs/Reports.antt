@@ -19,5 +19,4 @@ last_line f = codes "rounds: " ++ decimal f.rounds ++ codes ", removed " ++ deci
 
 -- the report: the line of each entry with its need, and the last line
 unfoldable pub prune_report : Alphabet → Pruning → List ℕ
-prune_report t f =
-    flat_map (λ k. keep_line t k.0 k.1) (zip f.patterns f.needs) ++ last_line f
+prune_report t f = flat_map (λ k. keep_line t k.0 k.1) (zip f.patterns f.needs) ++ last_line f

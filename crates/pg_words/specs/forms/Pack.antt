@@ -10,6 +10,7 @@ pub record PackRequest : Type 0 where
 
 -- `pack PATTERNS TRANSLATE TABLE`, where the table is an output
 abbrev pub pack_in : List (List ℕ) → Option PackRequest
-pack_in (patterns ∷ translate ∷ table ∷ []) = where_accepted (patterns ∷ translate ∷ []) (table ∷ [])
+pack_in (patterns ∷ translate ∷ table ∷ []) =
+    where_accepted (patterns ∷ translate ∷ []) (table ∷ [])
     (record { patterns = patterns; translate = translate; table = table })
 pack_in words = None
