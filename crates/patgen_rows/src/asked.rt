@@ -158,6 +158,10 @@ impl<'a> Asked<'a> {
         match line.keyword {
             Keyword::Arguments => self.said_arguments(line.rest),
             Keyword::Fault => self.said_fault(line.rest),
+            Keyword::Output => self.explained(&Wrong::Output {
+                name: line.rest,
+                obstacle: self.rest(Keyword::Reason),
+            }),
             Keyword::Line => self.said_false(line.rest),
             Keyword::Note => self.explained(&note_of(line.rest)),
             Keyword::Memory => Ok(MEMORY.to_vec(self.alloc)?),
@@ -173,7 +177,10 @@ impl<'a> Asked<'a> {
     /// The explanation of arguments.
     fn said_arguments(&self, line: &str) -> io::Result<Vec<u8>> {
         let arguments = arguments_of(self.alloc, line)?;
-        self.explained(&Wrong::Arguments(&arguments))
+        self.explained(&Wrong::Arguments {
+            program: "patgen",
+            arguments: &arguments,
+        })
     }
 
     /// The explanation of a fault, in whose line escapes may stand.

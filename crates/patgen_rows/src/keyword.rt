@@ -33,6 +33,7 @@ pub(crate) enum Keyword {
     // What went wrong.
     Arguments,
     Fault,
+    Output,
     Line,
     Note,
     Memory,
@@ -61,7 +62,7 @@ pub(crate) enum Keyword {
 }
 
 /// How the keywords are written.
-const KEYWORDS: [(&str, Keyword); 48] = [
+const KEYWORDS: [(&str, Keyword); 49] = [
     ("row", Keyword::Row),
     ("content", Keyword::Content),
     ("file", Keyword::File),
@@ -88,6 +89,7 @@ const KEYWORDS: [(&str, Keyword); 48] = [
     ("fails put", Keyword::FailsPut),
     ("arguments", Keyword::Arguments),
     ("fault", Keyword::Fault),
+    ("output", Keyword::Output),
     ("line", Keyword::Line),
     ("note", Keyword::Note),
     ("memory", Keyword::Memory),
@@ -190,6 +192,7 @@ impl Keyword {
             self,
             Keyword::Arguments
                 | Keyword::Fault
+                | Keyword::Output
                 | Keyword::Line
                 | Keyword::Note
                 | Keyword::Memory

@@ -20,6 +20,8 @@ mod folders;
 #[cfg(test)]
 mod host;
 #[cfg(test)]
+mod open_files;
+#[cfg(test)]
 mod outcomes;
 #[cfg(test)]
 mod outputs;

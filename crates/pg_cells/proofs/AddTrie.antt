@@ -17,7 +17,7 @@ use Rattle.pg_cells.specs.Inside.families.Moves.{IsOutsideFamily, CanPlace, Move
 use Rattle.pg_cells.specs.Inside.linked.ValuedFamilies.{Trie}
 use Rattle.pg_cells.specs.Inside.families.Layouts.{IsTrie, signs_at_base, value_in}
 use Rattle.pg_cells.specs.Inside.families.Adding.{with_sign_below}
-use Rattle.pg_cells.proofs.LinkedLists.{taken_within}
+use Rattle.pg_cells.proofs.RowCells.{taken_within}
 use Rattle.pg_cells.proofs.StringMaps.{order, same_maps, find_put_same, find_without_same, find_without_other, sorted_without, equal_or_not}
 use Rattle.pg_cells.proofs.BaseCells.{first_sign}
 use Rattle.pg_cells.proofs.LayoutLaws.{sign_stands, laid_alike, used_taken, taken_used}

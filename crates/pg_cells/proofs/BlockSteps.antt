@@ -1,9 +1,9 @@
 -- The search for a base, 64 bases at a time: what a number with a bit for each base says.
-use Rattle.std.proofs.Common.{◌≡◌, ℕ, zero, suc, ◌+◌, ◌-◌, ◌^◌, ◌<◌, ◌≤◌, ◌⊎◌, max, Bool, true, false, not, ◌&&◌, nat_eq, List, [], ◌∷◌, length, take, get_or, inl, inr, refl, sym, ◌∙◌, ap, arith, bit_or}
-use Rattle.std.specs.Int.{bit_at}
+use Rattle.std.proofs.Common.{◌≡◌, ℕ, zero, suc, ◌+◌, ◌-◌, ◌^◌, ◌<◌, ◌≤◌, ◌⊎◌, max, Bool, true, false, not, ◌&&◌, nat_eq, List, ◌∷◌, length, take, get_or, inl, inr, refl, sym, ◌∙◌, ap, arith, bit_or, w64}
+use Rattle.std.specs.Int.{bit_at, trailing_ones}
 use Rattle.std.specs.List.{list_all}
-use Rattle.std.proofs.lemmas.Bool.{and_right, cases_lt, both_ways}
-use Rattle.std.proofs.lemmas.Nat.Bits.{bit_at_or, bit_at-lt, bit_at_ones}
+use Rattle.std.proofs.lemmas.Bool.{and_right, cases_lt, cases_Bool, both_ways, false≢true}
+use Rattle.std.proofs.lemmas.Nat.Bits.{bit_at_or, bit_at-lt, bit_at_ones, bit_at-trailing_ones}
 use Rattle.pg_types.specs.Inside.Placing.{IsLeast}
 use Rattle.pg_cells.specs.declared.store.bit_set.BitSet.{BitSet}
 use Rattle.pg_cells.specs.Inside.store.BitSets.{has_index}
@@ -26,6 +26,15 @@ max_one (suc zero) b x y is = inl refl
 max_one (suc (suc a)) b x y is = absurd (omega arith)
 max_one a (suc (suc b)) x y is = absurd (omega arith)
 
+-- what the opposite of a truth value tells
+pub not_not_true : (b : Bool) → not b ≡ true → b ≡ false
+not_not_true true is = absurd (false≢true is)
+not_not_true false is = refl
+
+pub not_not_false : (b : Bool) → not b ≡ false → b ≡ true
+not_not_false true is = refl
+not_not_false false is = absurd (false≢true (sym is))
+
 -- a bit of two numbers together is set where one of them has it
 pub or_set : (x y j : ℕ) → bit_at (bit_or x y) j ≡ 1 → (bit_at x j ≡ 1) ⊎ (bit_at y j ≡ 1)
 or_set x y j is = max_one (bit_at x j) (bit_at y j) (bit_at-lt x j) (bit_at-lt y j) (sym (bit_at_or x y j) ∙ is)
@@ -41,6 +50,13 @@ set_says n j insert says one = sym says ∙ ap (λ b. nat_eq b 1) one
 pub clear_says : (n j : ℕ) (insert : Bool) → nat_eq (bit_at n j) 1 ≡ insert → bit_at n j ≡ 0 → insert ≡ false
 clear_says n j insert says none = sym says ∙ ap (λ b. nat_eq b 1) none
 
+-- a bit is clear where the index is not in the set
+pub clear_bit : (n j : ℕ) (insert : Bool) → nat_eq (bit_at n j) 1 ≡ insert → nat_eq (bit_at n j) 0 ≡ not insert
+clear_bit n j insert says = elim (which_bit n j) [
+  | inl none ↦ ap (λ b. nat_eq b 0) none ∙ sym (ap not (clear_says n j insert says none))
+  | inr one ↦ ap (λ b. nat_eq b 0) one ∙ sym (ap not (set_says n j insert says one))
+]
+
 module _ (taken bases : BitSet) (sign : ℕ) (slots : List ℕ) where
   test : ℕ → ℕ → Bool
   test b s = not (has_index taken (b + s))
@@ -52,28 +68,22 @@ module _ (taken bases : BitSet) (sign : ℕ) (slots : List ℕ) where
   misfit_cell b k x lt at marked =
       and_right (not (has_index bases b)) (list_all (λ s. not (has_index taken (b + s))) (sign ∷ slots)) (all_fails (λ s. not (has_index taken (b + s))) (sign ∷ slots) k x lt at (ap not marked))
 
-  -- the signs up to a slot may stand at a base, as far as the two sets say
+  -- no cell of the sign and of the slots up to one is taken
   pub record IsClear (b k : ℕ) : Type 0 where
-    pub base : has_index bases b ≡ false
     pub sign_cell : has_index taken (b + sign) ≡ false
     pub slot_cells : list_all (λ s. not (has_index taken (b + s))) (take k slots) ≡ true
 
-  -- the bits of a number say at which of the bases from `base` on the sign and the first slots may not stand
+  -- the bits of a number say at which of the bases from `base` on a cell of the sign or of the first slots is taken
   pub record SaysBlocked (blocked base k : ℕ) : Type 0 where
     pub set : (j : ℕ) → j < 64 → bit_at blocked j ≡ 1 → fits_sets taken bases (sign ∷ slots) (base + j) ≡ false
     pub clear : (j : ℕ) → j < 64 → bit_at blocked j ≡ 0 → IsClear (base + j) k
 
-  -- the base and the sign alone
-  pub says_first : (base x y : ℕ) → ((j : ℕ) → j < 64 → nat_eq (bit_at x j) 1 ≡ has_index bases (base + j))
-      → ((j : ℕ) → j < 64 → nat_eq (bit_at y j) 1 ≡ has_index taken (base + sign + j)) → SaysBlocked (bit_or x y) base 0
-  says_first base x y at_base at_sign = record {
-    set = λ j lt one. elim (or_set x y j one) [
-      | inl by_base ↦ misfit_base (base + j) (set_says x j (has_index bases (base + j)) (at_base j lt) by_base)
-      | inr by_sign ↦ misfit_cell (base + j) 0 sign (omega arith) refl (moved j ∙ set_says y j (has_index taken (base + sign + j)) (at_sign j lt) by_sign)
-    ];
-    clear = λ j lt none. let both = or_clear x y j none in record {
-      base = clear_says x j (has_index bases (base + j)) (at_base j lt) both.0;
-      sign_cell = moved j ∙ clear_says y j (has_index taken (base + sign + j)) (at_sign j lt) both.1;
+  -- the sign alone
+  pub says_first : (base y : ℕ) → ((j : ℕ) → j < 64 → nat_eq (bit_at y j) 1 ≡ has_index taken (base + sign + j)) → SaysBlocked y base 0
+  says_first base y at_sign = record {
+    set = λ j lt one. misfit_cell (base + j) 0 sign (omega arith) refl (moved j ∙ set_says y j (has_index taken (base + sign + j)) (at_sign j lt) one);
+    clear = λ j lt none. record {
+      sign_cell = moved j ∙ clear_says y j (has_index taken (base + sign + j)) (at_sign j lt) none;
       slot_cells = refl;
     };
   }
@@ -90,7 +100,6 @@ module _ (taken bases : BitSet) (sign : ℕ) (slots : List ℕ) where
       | inr by_slot ↦ misfit_cell (base + j) (suc k) s (omega arith) at (moved j ∙ set_says y j (has_index taken (base + s + j)) (at_slot j within) by_slot)
     ];
     clear = λ j within none. let both = or_clear blocked y j none in let was = before.clear j within both.0 in record {
-      base = was.base;
       sign_cell = was.sign_cell;
       slot_cells = all_more (λ x. not (has_index taken (base + j + x))) slots k s lt at
           (ap not (moved j ∙ clear_says y j (has_index taken (base + s + j)) (at_slot j within) both.1)) was.slot_cells;
@@ -100,19 +109,45 @@ module _ (taken bases : BitSet) (sign : ℕ) (slots : List ℕ) where
       moved : (j : ℕ) → has_index taken (base + j + s) ≡ has_index taken (base + s + j)
       moved j = ap (has_index taken) (omega arith)
 
-  -- where all slots were looked at, a clear bit says that the signs fit
-  pub clear_fits : (b k : ℕ) → take k slots ≡ slots → IsClear b k → fits_sets taken bases (sign ∷ slots) b ≡ true
-  clear_fits b k all clear = λ i. not (clear.base i) && (not (clear.sign_cell i) && whole i)
+  -- where all slots were looked at and the base is free too, the signs fit
+  clear_fits : (b k : ℕ) → take k slots ≡ slots → has_index bases b ≡ false → IsClear b k → fits_sets taken bases (sign ∷ slots) b ≡ true
+  clear_fits b k all free clear = λ i. not (free i) && (not (clear.sign_cell i) && whole i)
     where
       whole : list_all (λ s. not (has_index taken (b + s))) slots ≡ true
       whole = sym (ap (list_all (λ s. not (has_index taken (b + s)))) all) ∙ clear.slot_cells
 
-  -- so the bits tell which of the bases fit
-  pub says_fits : (blocked base k j : ℕ) → j < 64 → SaysBlocked blocked base k → (bit_at blocked j ≡ 0 → take k slots ≡ slots)
+  -- a bit that is set already tells that the base does not fit
+  pub says_blocked : (blocked base k j : ℕ) → j < 64 → SaysBlocked blocked base k → bit_at blocked j ≡ 1
       → nat_eq (bit_at blocked j) 0 ≡ fits_sets taken bases (sign ∷ slots) (base + j)
-  says_fits blocked base k j lt says all = elim (which_bit blocked j) [
-    | inl none ↦ ap (λ b. nat_eq b 0) none ∙ sym (clear_fits (base + j) k (all none) (says.clear j lt none))
-    | inr one ↦ ap (λ b. nat_eq b 0) one ∙ sym (says.set j lt one)
+  says_blocked blocked base k j lt says one = ap (λ b. nat_eq b 0) one ∙ sym (says.set j lt one)
+
+  -- with the bits of the bases all bits tell which of the bases fit
+  pub says_fits : (blocked x base k : ℕ) → take k slots ≡ slots → SaysBlocked blocked base k → ((j : ℕ) → j < 64 → nat_eq (bit_at x j) 1 ≡ has_index bases (base + j))
+      → (j : ℕ) → j < 64 → nat_eq (bit_at (bit_or blocked x) j) 0 ≡ fits_sets taken bases (sign ∷ slots) (base + j)
+  says_fits blocked x base k all says at_base j lt = elim (which_bit (bit_or blocked x) j) [
+    | inl none ↦
+        let both = or_clear blocked x j none in
+        ap (λ b. nat_eq b 0) none
+        ∙ sym (clear_fits (base + j) k all (clear_says x j (has_index bases (base + j)) (at_base j lt) both.1) (says.clear j lt both.0))
+    | inr one ↦ ap (λ b. nat_eq b 0) one ∙ sym (elim (or_set blocked x j one) [
+      | inl by_cell ↦ says.set j lt by_cell
+      | inr by_base ↦ misfit_base (base + j) (set_says x j (has_index bases (base + j)) (at_base j lt) by_base)
+    ])
+  ]
+
+  -- where the signs fit, the cell of the sign is free
+  pub free_sign_cell : (b : ℕ) → fits_sets taken bases (sign ∷ slots) b ≡ true → has_index taken (b + sign) ≡ false
+  free_sign_cell b fits = elim (cases_Bool (has_index taken (b + sign))) [
+    | inl marked ↦ absurd (both_ways (fits_sets taken bases (sign ∷ slots) b) (misfit_cell b 0 sign (omega arith) refl marked) fits)
+    | inr free ↦ free
+  ]
+
+  -- no base fits up to that of the next cell of the sign that is not passed over
+  pub passed_over : (low base next k : ℕ) → ((i : ℕ) → low ≤ i → i < base + 64 → fits_sets taken bases (sign ∷ slots) i ≡ false)
+      → ((i : ℕ) → base + sign + 64 ≤ i → i < next → has_index taken i ≡ true) → low ≤ k → k < next - sign → fits_sets taken bases (sign ∷ slots) k ≡ false
+  passed_over low base next k tried full from lt = elim (cases_lt k (base + 64)) [
+    | inl near ↦ tried k from near
+    | inr far ↦ misfit_cell k 0 sign (omega arith) refl (full (k + sign) (omega arith) (omega arith))
   ]
 
 -- where all bits are set, none of the bases fits
@@ -133,13 +168,32 @@ fit_behind fits blocked base room full bits from fit = elim (cases_lt room (base
   | inr behind ↦ behind
 ]
 
--- the least of 64 bases that fits, by the lowest clear bit
-pub least_in_block : (fits : ℕ → Bool) (low base bit : ℕ) → low ≤ base → bit < 64 → ((k : ℕ) → low ≤ k → k < base → fits k ≡ false) → fits (base + bit) ≡ true
-    → ((j : ℕ) → j < bit → fits (base + j) ≡ false) → (k : ℕ) → low ≤ k → k < base + bit → fits k ≡ false
-least_in_block fits low base bit le small before here inside k from lt = elim (early k base) [
-  | inl less ↦ before k from less
-  | inr more ↦ ap fits (let back : k ≡ base + (k - base) = omega arith in back) ∙ inside (k - base) (omega arith)
-]
+-- the lowest clear bit tells the first index that fits
+pub found_in_block : (fits : ℕ → Bool) (low base bound blocked bit : ℕ) → low ≤ base → low ≤ bound → ((k : ℕ) → low ≤ k → k < base → fits k ≡ false)
+    → ((j : ℕ) → j < 64 → nat_eq (bit_at blocked j) 0 ≡ fits (base + j)) → fits bound ≡ true → blocked + 1 < 2 ^ 64 → bit ≡ trailing_ones w64 blocked
+    → IsLeast fits low (base + bit) × (base + bit ≤ bound)
+found_in_block fits low base bound blocked bit from within before bits fit some is = (
+  record { from = omega arith; meets = here; first = first },
+  elim (cases_lt bound (base + bit)) [
+    | inl early ↦ absurd (both_ways (fits bound) (first bound within early) fit)
+    | inr late ↦ late
+  ],
+)
   where
-    early : (a b : ℕ) → (a < b) ⊎ (b ≤ a)
-    early a b = cases_lt a b
+    lowest : (trailing_ones w64 blocked < 64) × (bit_at blocked (trailing_ones w64 blocked) ≡ 0) × ((i : ℕ) → i < trailing_ones w64 blocked → bit_at blocked i ≡ 1)
+    lowest = bit_at-trailing_ones w64 blocked some
+
+    small : bit < 64
+    small = let low = lowest.0 in omega arith
+
+    here : fits (base + bit) ≡ true
+    here = sym (bits bit small) ∙ ap (λ b. nat_eq b 0) (ap (bit_at blocked) is ∙ lowest.1)
+
+    first : (k : ℕ) → low ≤ k → k < base + bit → fits k ≡ false
+    first k le lt = elim (cases_lt k base) [
+      | inl less ↦ before k le less
+      | inr more ↦
+          ap fits (let back : k ≡ base + (k - base) = omega arith in back)
+          ∙ sym (bits (k - base) (omega (arith, small)))
+          ∙ ap (λ b. nat_eq b 0) (lowest.2 (k - base) (omega arith))
+    ]

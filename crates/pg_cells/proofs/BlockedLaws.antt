@@ -12,7 +12,7 @@ use Rattle.pg_cells.specs.Inside.store.Store.{Extends, IsTop}
 use Rattle.pg_cells.specs.Inside.store.Writes.{Takes, SetsChild, SetsRowValue, SetsBase}
 use Rattle.pg_cells.specs.Inside.families.Moves.{CanPlace, GivesUp, DropsBase, PutsSlots}
 use Rattle.pg_cells.proofs.FitSteps.{taken_misfit}
-use Rattle.pg_cells.proofs.LinkedLists.{free_within}
+use Rattle.pg_cells.proofs.RowCells.{free_within}
 use Rattle.pg_cells.proofs.PlacedRoom.{outside_sign, was_taken, new_free, slots_free, dropped_sign, all_has}
 use Rattle.pg_cells.proofs.Slots.{has_slot, slot_has, slot_or_none, outside_or, outside_here}
 
@@ -95,7 +95,7 @@ module _ {V : Type 0} (n : ℕ) (old gave dropped : Row V) (was : ℕ) (slots : 
         let same : k ≡ was = omega arith in
         let kept : sign_at dropped (was + slot.sign) ≡ sign_at old (was + slot.sign) =
         outside_sign n old gave dropped was slots slot parent can gives drops (was + slot.sign) (outside_here was slots slot.sign can.new) in
-        ap (fits_row dropped (slot.sign ∷ slot_signs slots)) same ∙ taken_misfit dropped (slot.sign ∷ slot_signs slots) (omega arith) slot.sign refl was (λ z. can.sign_taken up (sym kept ∙ z))
+        ap (fits_row dropped (slot.sign ∷ slot_signs slots)) same ∙ taken_misfit dropped (slot.sign ∷ slot_signs slots) 0 slot.sign (omega arith) refl was (λ z. can.sign_taken up (sym kept ∙ z))
     | inl below ↦ elim (are k low below) [
       | inl base ↦ and_left (not (base_at dropped k)) (list_all (λ s. nat_eq (sign_at dropped (k + s)) 0) (slot.sign ∷ slot_signs slots)) (ap not (base_stays k (omega arith) ∙ base))
       | inr h ↦

@@ -76,35 +76,20 @@ bounds_raise r lows raised freed dropped sign low far_cell far_base are here the
     by : s ≡ sign → NoneFree r sign b → NoneFree r s b
     by e free flag z = free flag (ap (λ x. sign_at r (b + x)) (sym e) ∙ z)
 
-module _ {V : Type 0} (r : Row V) (sign : ℕ) (signs : List ℕ) where
-  -- a base that is not free does not fit
-  pub not_free : (b : ℕ) → NoneFree r sign b → fits_row r (sign ∷ signs) b ≡ false
-  not_free b none = elim (cases_Bool (base_at r b)) [
-    | inl base ↦ and_left (not (base_at r b)) (list_all (λ s. nat_eq (sign_at r (b + s)) 0) (sign ∷ signs)) (ap not base)
-    | inr flag ↦ taken_misfit r (sign ∷ signs) (omega arith) sign refl b (none flag)
-  ]
+-- a base that is not free for one of the signs does not fit
+pub not_free : {V : Type 0} (r : Row V) (signs : List ℕ) (k sign : ℕ) → k < length signs → get_or signs k 0 ≡ sign → (b : ℕ) → NoneFree r sign b → fits_row r signs b ≡ false
+not_free r signs k sign lt at b none = elim (cases_Bool (base_at r b)) [
+  | inl base ↦ and_left (not (base_at r b)) (list_all (λ s. nat_eq (sign_at r (b + s)) 0) signs) (ap not base)
+  | inr flag ↦ taken_misfit r signs k sign lt at b (none flag)
+]
 
-  pub base_free : (b : ℕ) → fits_row r (sign ∷ signs) b ≡ true → NoneFree r sign b → ⊥
-  base_free b fits none = both_ways (fits_row r (sign ∷ signs) b) (not_free b none) fits
-
-  -- so a search from the bound finds what one from further down finds
-  pub least_from : (low bound base : ℕ) → 0 < low → ((b : ℕ) → 0 < b → b < bound → NoneFree r sign b) → IsLeast (fits_row r (sign ∷ signs)) (max low bound) base
-      → IsLeast (fits_row r (sign ∷ signs)) low base
-  least_from low bound base up none least = record {
-    from = (let from = least.from in omega arith);
-    meets = least.meets;
-    first = λ k le lt. elim (cases_lt k (max low bound)) [
-      | inl below ↦ not_free k (none k (omega arith) (omega arith))
-      | inr above ↦ least.first k above lt
-    ];
-  }
-
-  -- the bound is not above a base that fits
-  pub bound_within : (low bound room : ℕ) → 0 < low → low ≤ room → ((b : ℕ) → 0 < b → b < bound → NoneFree r sign b) → fits_row r (sign ∷ signs) room ≡ true → max low bound ≤ room
-  bound_within low bound room up le none fits = elim (cases_lt room bound) [
-    | inl lt ↦ absurd (base_free room fits (none room (omega arith) lt))
-    | inr ge ↦ omega arith
-  ]
+-- no base fits below what was tried nor below a bound
+pub below_both : (fits : ℕ → Bool) (low tried bound : ℕ) → 0 < low → ((k : ℕ) → low ≤ k → k < tried → fits k ≡ false) → ((b : ℕ) → 0 < b → b < bound → fits b ≡ false)
+    → (k : ℕ) → low ≤ k → k < max tried bound → fits k ≡ false
+below_both fits low tried bound up were none k le lt = elim (cases_lt k tried) [
+  | inl less ↦ were k le less
+  | inr more ↦ none k (omega arith) (omega arith)
+]
 
 -- where one sign does not fit, the base is not free
 lone : {V : Type 0} (r : Row V) (sign b : ℕ) → fits_row r (sign ∷ []) b ≡ false → NoneFree r sign b
@@ -113,12 +98,12 @@ lone r sign b fails flag z =
     (and_from (not (base_at r b)) (list_all (λ s. nat_eq (sign_at r (b + s)) 0) (sign ∷ [])) (ap not flag) (and_from (nat_eq (sign_at r (b + sign)) 0) true (eq-eqb (sign_at r (b + sign)) 0 z) refl))
 
 -- after a search for one sign no base below the answer is free
-pub none_below : {V : Type 0} (r : Row V) (sign low bound base : ℕ) → low ≤ max bound 1 → ((b : ℕ) → 0 < b → b < bound → NoneFree r sign b)
+pub none_below : {V : Type 0} (r : Row V) (sign low bound base : ℕ) → low ≤ max bound 1 → ((b : ℕ) → 0 < b → b < bound → fits_row r (sign ∷ []) b ≡ false)
     → IsLeast (fits_row r (sign ∷ [])) low base → (b : ℕ) → 0 < b → b < base → NoneFree r sign b
-none_below r sign low bound base le none least b up lt = elim (cases_lt b bound) [
+none_below r sign low bound base le none least b up lt = lone r sign b (elim (cases_lt b bound) [
   | inl below ↦ none b up below
-  | inr above ↦ lone r sign b (least.first b (omega arith) lt)
-]
+  | inr above ↦ least.first b (omega arith) lt
+])
 
 -- a list of no elements
 pub no_elements : {A : Type 0} (xs : List A) → length xs ≡ 0 → xs ≡ []

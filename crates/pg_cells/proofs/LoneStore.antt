@@ -2,17 +2,12 @@
 use Rattle.std.proofs.Common.{◌≡◌, ℕ, ◌≤◌, false, List, [], ◌∷◌, length, refl, get_or, zero, suc, arith}
 use Rattle.pg_cells.specs.declared.store.cell.Cell.{Cell}
 use Rattle.pg_cells.specs.declared.store.cell.TheConstants.{SIGN_COUNT}
-use Rattle.pg_cells.specs.Inside.store.CellRows.{linked_row, row_of, base_at}
+use Rattle.pg_cells.specs.Inside.store.CellRows.{row_of, base_at}
 use Rattle.pg_cells.specs.declared.store.bit_set.BitSet.{BitSet}
 use Rattle.pg_cells.specs.Inside.store.BitSets.{room_of, has_index}
-use Rattle.pg_cells.specs.Inside.store.FreeList.{AreLinked}
 use Rattle.pg_cells.specs.Inside.store.Store.{IsStore}
 use Rattle.pg_cells.proofs.SetLaws.{sets_none}
 use Rattle.pg_cells.proofs.BlockedLaws.{blocked_none}
-
-only_free : (i : ℕ) → ◌≡◌ {A = ℕ} (get_or (0 ∷ []) i 1) 0 → i ≡ 0
-only_free zero e = refl
-only_free (suc i) e = absurd (omega arith)
 
 all_zero : (i : ℕ) → ◌≡◌ {A = ℕ} (get_or (0 ∷ []) i 0) 0
 all_zero zero = refl
@@ -26,22 +21,10 @@ module _ {V : Type 0} (value : V) where
   no_base zero = refl
   no_base (suc i) = refl
 
-  lone_linked : AreLinked (linked_row (free_cell ∷ []))
-  lone_linked = record {
-    head = refl;
-    after_ok = λ i e up. absurd (up (all_zero i));
-    after_least = λ i j e lt f. absurd (let at = only_free j f in omega arith);
-    before_ok = λ i up e. absurd (let at = only_free i e in omega arith);
-    before_most = λ i j up e lt f. absurd (let at = only_free i e in omega arith);
-    last_ok = refl;
-    last_most = λ j e. let at = only_free j e in omega arith;
-  }
-
   pub lone_store : (lows : List ℕ) (taken_set bases : BitSet) → length lows ≤ SIGN_COUNT → 1 ≤ room_of taken_set → 1 ≤ room_of bases → ((i : ℕ) → has_index taken_set i ≡ false)
       → ((i : ℕ) → has_index bases i ≡ false) → IsStore (free_cell ∷ []) 0 0 taken_set bases lows 0 0 0 0
   lone_store lows taken_set bases few room base_room none none_bases = record {
     kept = record {
-      linked = lone_linked;
       small = omega arith;
       greatest = record {
         most = λ i taken. absurd (taken (all_zero i));

@@ -13,7 +13,7 @@ use Rattle.pg_cells.specs.Inside.families.Moves.{DropsEmptyFamily}
 use Rattle.pg_cells.specs.Inside.families.Removing.{CanRemoveSign}
 use Rattle.pg_cells.specs.Inside.linked.ValuedFamilies.{Trie}
 use Rattle.pg_cells.specs.Inside.families.Layouts.{IsTrie, signs_at_base}
-use Rattle.pg_cells.proofs.LinkedLists.{taken_within}
+use Rattle.pg_cells.proofs.RowCells.{taken_within}
 use Rattle.pg_cells.proofs.StringMaps.{order, without_key}
 use Rattle.pg_cells.proofs.LayoutLaws.{sign_stands, has_range}
 use Rattle.pg_cells.proofs.PlacedFamily.{not_longer}

@@ -7,7 +7,7 @@ use Rattle.pg_cells.specs.declared.store.member.Member.{Member}
 use Rattle.pg_cells.specs.Inside.store.CellRows.{sign_seen, base_seen, link_seen, row_of, unlink_at, child_seen, member_seen, sign_at, child_at, IsFree, with_taken, with_free, with_child, with_value, with_base}
 use Rattle.pg_cells.specs.Inside.store.Store.{IsRow}
 use Rattle.pg_cells.specs.Inside.store.Writes.{Takes, Frees, SetsChild, SetsRowValue, SetsBase}
-use Rattle.pg_cells.proofs.LinkedLists.{free_within, taken_within}
+use Rattle.pg_cells.proofs.RowCells.{free_within, taken_within}
 use Rattle.pg_cells.proofs.StoreSteps.{how_many_set}
 
 set_here : {A : Type 0} (xs : List A) (i : ℕ) (y : A) → i < length xs → slice_get (set xs i y) i ≡ Some y

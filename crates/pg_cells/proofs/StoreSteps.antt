@@ -5,9 +5,8 @@ use Rattle.std.proofs.lemmas.List.{take_at, length-set, length-map, length_push,
 use Rattle.pg_cells.specs.declared.store.cell.TheConstants.{CELLS_END}
 use Rattle.pg_cells.specs.declared.store.cell.Cell.{Cell}
 use Rattle.pg_cells.specs.declared.store.member.Member.{Member}
-use Rattle.pg_cells.specs.Inside.store.CellRows.{sign_seen, Row, LinkedRow, linked_row, row_of, without_links, member_seen, sign_at, IsFree, with_taken, with_free, with_child, with_value, with_more}
-use Rattle.pg_cells.specs.Inside.store.FreeList.{IsFreeList, AreLinked}
-use Rattle.pg_cells.proofs.LinkedLists.{taken_within, not_free}
+use Rattle.pg_cells.specs.Inside.store.CellRows.{sign_seen, Row, row_of, without_links, member_seen, sign_at, IsFree, with_taken, with_free, with_more}
+use Rattle.pg_cells.proofs.RowCells.{taken_within}
 use Rattle.pg_cells.specs.Inside.store.Store.{IsTop, IsKept, Extends, how_many, taken_in}
 
 -- what a vector holds after its slice was lent and given back
@@ -31,80 +30,19 @@ how_many_le (x ∷ xs) = let rest = how_many_le xs in omega arith
 pub taken_le : {V : Type 0} (cells : List (Cell V)) → taken_in (row_of cells) ≤ length cells
 taken_le cells = omega (arith, how_many_le (row_of cells).signs, length-map cells sign_seen)
 
--- nor do the other links of a taken cell
-IsFreeList-beside : (S B A B' : ℕ → ℕ) → IsFreeList S B A → ((j : ℕ) → S j ≡ 0 → B' j ≡ B j) → IsFreeList S B' A
-IsFreeList-beside S B A B' old same = record {
-  head = old.head;
-  after_ok = old.after_ok;
-  after_least = old.after_least;
-  before_ok = λ j up e.
-      let to : B' j ≡ B j = same j e in
-      let h = old.before_ok j up e in (omega (arith, h.0), ap S to ∙ h.1);
-  before_most = λ j k up e lt f.
-      let to : B' j ≡ B j = same j e in
-      let le = old.before_most j k up e lt f in omega arith;
-  last_ok = ap S (same 0 old.head) ∙ old.last_ok;
-  last_most = λ j e.
-      let to : B' 0 ≡ B 0 = same 0 old.head in
-      let le = old.last_most j e in omega arith;
-}
-
--- a link of a taken cell counts for nothing
-IsFreeList-elsewhere : (S B A A' : ℕ → ℕ) → IsFreeList S B A → ((j : ℕ) → S j ≡ 0 → A' j ≡ A j) → IsFreeList S B A'
-IsFreeList-elsewhere S B A A' old same = record {
-  head = old.head;
-  after_ok = λ j e up.
-      let to : A' j ≡ A j = same j e in
-      let h = old.after_ok j e (λ z. up (to ∙ z)) in (omega (arith, h.0), ap S to ∙ h.1);
-  after_least = λ j k e lt f.
-      let to : A' j ≡ A j = same j e in
-      let h = old.after_least j k e lt f in (omega (arith, h.0), omega (arith, h.1));
-  before_ok = old.before_ok;
-  before_most = old.before_most;
-  last_ok = old.last_ok;
-  last_most = old.last_most;
-}
-
 module _ {V : Type 0} (old new : List (Cell V)) (top taken : ℕ) (kept : IsKept old top taken) (size : length new ≡ length old) where
-  -- a flag is written
-  pub kept_write : (row : Row (Member V)) → row.signs ≡ (row_of old).signs → linked_row new ≡ record (linked_row old) { row = row } → IsKept new top taken
-  kept_write row signs e = record {
-    linked = subst (λ ls. AreLinked ls) (sym e) (subst (λ ss. IsFreeList (λ j. get_or ss j 1) (λ j. get_or (linked_row old).befores j 0) (λ j. get_or (linked_row old).afters j 0))
-        (sym signs) kept.linked);
+  -- a cell is written and keeps its sign
+  pub kept_write : (row_of new).signs ≡ (row_of old).signs → IsKept new top taken
+  kept_write signs = record {
     small = let h = kept.small in omega arith;
-    greatest = subst (λ ss. IsTop ss top) (sym signs ∙ sym (ap (λ (ls : LinkedRow (Member V)). ls.row.signs) e)) kept.greatest;
-    count = kept.count ∙ ap how_many (sym signs ∙ sym (ap (λ (ls : LinkedRow (Member V)). ls.row.signs) e));
-  }
-
-  -- the child of a taken cell is written
-  pub kept_child : (i x : ℕ) → sign_at (row_of old) i ≢ 0 → linked_row new ≡ record (linked_row old) { row = with_child (linked_row old).row i x; afters = set (linked_row old).afters i x }
-      → IsKept new top taken
-  kept_child i x taken_i e = record {
-    linked = subst (λ ls. AreLinked ls) (sym e) (IsFreeList-elsewhere _ _ _ _ kept.linked
-        (λ j free. get_or-set_other (linked_row old).afters i j x 0 (λ z. not_free (row_of old) i taken_i (subst (λ k. IsFree (row_of old) k) z free))));
-    small = let h = kept.small in omega arith;
-    greatest = subst (λ ss. IsTop ss top) (sym (ap (λ (ls : LinkedRow (Member V)). ls.row.signs) e)) kept.greatest;
-    count = kept.count ∙ ap how_many (sym (ap (λ (ls : LinkedRow (Member V)). ls.row.signs) e));
-  }
-
-  -- the value of a taken cell is written
-  pub kept_value : (i x : ℕ) (value : Member V) → sign_at (row_of old) i ≢ 0
-      → linked_row new ≡ record (linked_row old) { row = with_value (linked_row old).row i value; befores = set (linked_row old).befores i x }
-      → IsKept new top taken
-  kept_value i x value taken_i e = record {
-    linked = subst (λ ls. AreLinked ls) (sym e) (IsFreeList-beside _ _ _ _ kept.linked
-        (λ j free. get_or-set_other (linked_row old).befores i j x 0 (λ z. not_free (row_of old) i taken_i (subst (λ k. IsFree (row_of old) k) z free))));
-    small = let h = kept.small in omega arith;
-    greatest = subst (λ ss. IsTop ss top) (sym (ap (λ (ls : LinkedRow (Member V)). ls.row.signs) e)) kept.greatest;
-    count = kept.count ∙ ap how_many (sym (ap (λ (ls : LinkedRow (Member V)). ls.row.signs) e));
+    greatest = subst (λ ss. IsTop ss top) (sym signs) kept.greatest;
+    count = kept.count ∙ ap how_many (sym signs);
   }
 
   -- a free cell is taken
-  pub kept_taken : (i sign : ℕ) (value : Member V) (child r : ℕ) → i < length old → IsFree (row_of old) i → sign ≢ 0 → (linked_row new).row
-      ≡ with_taken (linked_row old).row i sign value child → AreLinked (linked_row new) → r ≡ max top i
+  pub kept_taken : (i sign : ℕ) (value : Member V) (child r : ℕ) → i < length old → IsFree (row_of old) i → sign ≢ 0 → row_of new ≡ with_taken (row_of old) i sign value child → r ≡ max top i
       → IsKept new r (taken + 1)
-  kept_taken i sign value child r lt free positive e linked is = record {
-    linked = linked;
+  kept_taken i sign value child r lt free positive e is = record {
     small = let h = kept.small in omega arith;
     greatest = subst (λ ss. IsTop ss r) (sym signs) (record { most = most; within = within; used = used });
     count = omega (arith, was, kept.count, how_many_set (row_of old).signs i sign in_i, ap how_many signs);
@@ -137,10 +75,9 @@ module _ {V : Type 0} (old new : List (Cell V)) (top taken : ℕ) (kept : IsKept
       ]
 
   -- a taken cell is given up
-  pub kept_freed : (i r : ℕ) → i < length old → sign_at (row_of old) i ≢ 0 → (linked_row new).row ≡ with_free (linked_row old).row i → AreLinked (linked_row new)
+  pub kept_freed : (i r : ℕ) → i < length old → sign_at (row_of old) i ≢ 0 → row_of new ≡ with_free (row_of old) i
       → r ≤ top → (0 < r → sign_at (row_of new) r ≢ 0) → ((k : ℕ) → k ≤ top → sign_at (row_of new) k ≢ 0 → k ≤ r) → IsKept new r (taken - 1)
-  kept_freed i r lt up e linked le used most = record {
-    linked = linked;
+  kept_freed i r lt up e le used most = record {
     small = let h = kept.small in omega arith;
     greatest = record { most = all; within = let h = kept.greatest.within in omega (arith, ap length signs, length-set (row_of old).signs i 0); used = used };
     count = omega (arith, kept.count, how_many_set (row_of old).signs i 0 in_i, ap how_many signs);
@@ -198,9 +135,8 @@ module _ {V : Type 0} where
   }
 
 module _ {V : Type 0} where
-  pub kept_extended : (old new : List (Cell V)) (top taken : ℕ) → IsKept old top taken → AreLinked (linked_row new) → length new < CELLS_END → Extends (row_of old) (row_of new) → IsKept new top taken
-  kept_extended old new top taken kept linked small more = record {
-    linked = linked;
+  pub kept_extended : (old new : List (Cell V)) (top taken : ℕ) → IsKept old top taken → length new < CELLS_END → Extends (row_of old) (row_of new) → IsKept new top taken
+  kept_extended old new top taken kept small more = record {
     small = small;
     greatest = record {
       most = λ i up. kept.greatest.most i (λ z. up (more.signs i ∙ z));

@@ -14,7 +14,7 @@ use Rattle.pg_cells.specs.Inside.linked.ValuedFamilies.{Trie}
 use Rattle.pg_cells.specs.Inside.families.Layouts.{IsTrie, value_in}
 use Rattle.pg_cells.specs.Inside.families.OneTrie.{last_of}
 use Rattle.pg_cells.proofs.StringMaps.{order, find_put_same, find_put_other, sorted_put, equal_or_not}
-use Rattle.pg_cells.proofs.LinkedLists.{taken_within}
+use Rattle.pg_cells.proofs.RowCells.{taken_within}
 use Rattle.pg_cells.proofs.RootTrie.{any_range}
 use Rattle.pg_cells.proofs.PlacementLaws.{cell_of_last, cell_used}
 use Rattle.pg_cells.proofs.LayoutLaws.{sign_stands, stands_sign, laid_alike}

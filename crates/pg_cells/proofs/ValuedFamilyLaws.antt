@@ -12,7 +12,7 @@ use Rattle.pg_cells.specs.Inside.linked.ValuedFamilies.{Trie}
 use Rattle.pg_cells.specs.Inside.linked.AreValuedFamilies.{AreValuedFamilies}
 use Rattle.pg_cells.specs.Inside.families.Layouts.{IsTrie, value_in}
 use Rattle.pg_cells.specs.Inside.families.OneTrie.{HasLast, last_of}
-use Rattle.pg_cells.proofs.LinkedLists.{taken_within}
+use Rattle.pg_cells.proofs.RowCells.{taken_within}
 use Rattle.pg_cells.proofs.StringMaps.{order}
 use Rattle.pg_cells.proofs.BaseCells.{first_sign}
 use Rattle.pg_cells.proofs.LayoutLaws.{same_filter, sign_stands, stands_sign}

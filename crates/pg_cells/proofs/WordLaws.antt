@@ -4,10 +4,7 @@ use Rattle.std.proofs.lemmas.Bool.{cases_eq, eq-eqb, eqb-true, ne_eqb, true≢fa
 use Rattle.pg_cells.specs.declared.store.cell.TheConstants.{SIGN_COUNT}
 use Rattle.pg_cells.specs.Inside.store.CellRows.{sign_in, next_in, first_in, base_in, link_in}
 
--- an even word has no sign, and an odd one has one less than its sign above the lowest bit
-pub sign_even : (x : ℕ) → sign_in (x * 2) ≡ 0
-sign_even x = let even : x * 2 % 2 ≡ 0 = omega arith in ap (λ n. cond (nat_eq n 0) 0 (x * 2 / 2 % 2048 + 1)) even
-
+-- an odd word has one less than its sign above the lowest bit
 pub sign_odd : (w : ℕ) → w % 2 ≡ 1 → sign_in w ≡ w / 2 % 2048 + 1
 sign_odd w e = ap (λ n. cond (nat_eq n 0) 0 (w / 2 % 2048 + 1)) e
 

@@ -12,13 +12,11 @@
 //!   parameter FEW. A family of up to FEW signs is sought from base 1 on.
 //! - A *link* leads from sign to sign. A cell has the next sign of its own family, and the first
 //!   sign of the family below it. So the signs of a family are found without a look at every cell.
-//! - The free cells are linked too, in rising order and both ways, through cell 0. So the search
-//!   for a base passes over taken cells.
 //! - A *bound* of a sign is a base. Below it no base can be taken for a family with this sign,
 //!   since the base or the sign's cell there is taken. Cells and bases that are given up lower the
-//!   bounds. A search begins at the bound.
-//! - Two sets of bits say which cells are taken, and which indices are bases. By them a search for
-//!   a family of many signs looks at 64 bases together.
+//!   bounds. A search begins at the greatest bound of the family's signs.
+//! - Two sets of bits say which cells are taken, and which indices are bases. By them a search looks
+//!   at 64 bases together, and passes over each 64 cells that are all taken.
 //!
 //! `store` is the row, with its cells, its free cells, its bounds and the search for a base.
 //! `families` is the placement, with its steps. `linked` adds the links, and `walks` goes from

@@ -1,8 +1,7 @@
-//! The store: one vector of cells, whose free ones are linked in rising order.
+//! The store: one vector of cells.
 ghost use Rattle.std.specs.Prelude.{◌≡◌, ◌≢◌, ℕ, ◌+◌, ◌<◌, ◌≤◌, ◌==◌, if◌then◌else◌, ◌∷◌, length, nat_eq, slice_get, Some, IfOk, OnOk};
 ghost use Rattle.pg_types.specs.Inside.Placing.{IsLeast};
-ghost use Rattle.pg_cells.specs.Inside.store.CellRows.{linked_row, FitsCell, SaysTaken, row_of, without_links, sign_at, child_at, IsFree};
-ghost use Rattle.pg_cells.specs.Inside.store.FreeList.{AreLinked};
+ghost use Rattle.pg_cells.specs.Inside.store.CellRows.{FitsCell, SaysTaken, row_of, without_links, sign_at, child_at, IsFree};
 ghost use Rattle.pg_cells.specs.Inside.store.BlockedBases.{AreBlocked};
 ghost use Rattle.pg_cells.specs.Inside.store.Bounds.{NoneFree};
 ghost use Rattle.pg_cells.specs.Inside.store.Fit.{HasSpace, fits_row, slot_signs};
@@ -16,20 +15,23 @@ mod bit_set;
 mod blocks;
 mod bounds;
 mod cell;
-mod chain;
 pub mod fit;
+mod free_cells;
 pub mod member;
+mod taken_set;
 
 use crate::store::bit_set::BitSet;
 use crate::store::blocks::find_in_blocks;
 use crate::store::bounds::{bound_of, least_dropped, no_bounds, raise, still_placed};
 use crate::store::cell::{
-    CELLS_END, Cell, SIGN_COUNT, child_of, is_taken, set_base, set_child, set_value, value_of,
+    CELLS_END, Cell, SIGN_COUNT, child_of, is_taken, set_base, set_child, set_free, set_taken,
+    set_value, value_of,
 };
-use crate::store::chain::{free_all, free_cell, push_cell, take_cell};
-use crate::store::fit::{Slot, find_base, has_sign_there, is_taken_there};
+use crate::store::fit::{Slot, has_sign_there, is_taken_there};
+use crate::store::free_cells::{free_all, push_cell};
 use crate::store::member::Member;
-use pg_types::{FEW_SIGNS, Sign};
+use crate::store::taken_set::TakenSet;
+use pg_types::Sign;
 use std::alloc::{AllocError, Global};
 use std::marker::Model;
 
@@ -43,8 +45,8 @@ pub struct Store<V: Copy> {
     cells: Vec<Cell<V>>,
     top: usize,
     taken: usize,
-    /// The taken cells, a bit for each.
-    taken_set: BitSet,
+    /// The taken cells.
+    taken_set: TakenSet,
     /// The bases of families, a bit for each.
     bases: BitSet,
     /// A bound for each sign. Each base below it is that of a family, or the sign's cell there is
@@ -74,7 +76,7 @@ impl<V: Copy> Model for Store<V> {
     ghost view = { λ s. row_of s.cells.items };
 
     ghost invariant = { λ s.
-        IsStore s.cells.items s.top s.taken s.taken_set s.bases s.lows.items
+        IsStore s.cells.items s.top s.taken s.taken_set.cells s.bases s.lows.items
         s.freed s.dropped s.placed s.sought };
 }
 
@@ -90,7 +92,7 @@ impl<V: Copy> Store<V> {
             signs: 0,
             links: 0,
         })?;
-        let mut taken_set = BitSet::empty(alloc);
+        let mut taken_set = TakenSet::empty(alloc);
         taken_set.make_room(1)?;
         let mut bases = BitSet::empty(alloc);
         bases.make_room(1)?;
@@ -198,7 +200,7 @@ impl<V: Copy> Store<V> {
         ensures takes { Takes self.old self.new cell slot.sign slot.value slot.child }
         ensures row { IsRow self.new }
     {
-        take_cell(
+        set_taken(
             self.cells.as_mut_slice(),
             cell,
             slot.sign,
@@ -217,7 +219,7 @@ impl<V: Copy> Store<V> {
         ensures frees { Frees self.old self.new cell }
         ensures row { IsRow self.new }
     {
-        free_cell(self.cells.as_mut_slice(), cell);
+        set_free(self.cells.as_mut_slice(), cell);
         self.taken_set.remove(cell);
         self.top = taken_up_to(self.cells.as_slice(), self.top);
         self.taken -= 1;
@@ -317,17 +319,13 @@ impl<V: Copy> Store<V> {
     }
 
     /// The least base from `low` on at which the sign and those of the slots may stand. `room` is a
-    /// base at which they may stand. Where there are fewer than `FEW_SIGNS` slots, the search goes
-    /// along the free cells. Else it takes 64 bases at a time.
+    /// base at which they may stand.
     pub fn find_base(&self, slots: &[Slot<Member<V>>], sign: Sign, low: usize, room: usize) -> usize
         requires low { low ≤ room }
         requires room { HasSpace self.now slots.now sign room }
         ensures least { IsLeast (fits_row self.now (sign ∷ slot_signs slots.now)) low result }
         ensures room { result ≤ room }
     {
-        if slots.len() < FEW_SIGNS {
-            return find_base(self.cells.as_slice(), slots, sign, low, room);
-        }
         find_in_blocks(&self.taken_set, &self.bases, slots, sign, low, room)
     }
 }
@@ -350,8 +348,8 @@ fn put_in(set: &mut BitSet, index: usize, is_in: bool)
 fn taken_up_to<V: Copy>(cells: &[Cell<V>], cell: usize) -> usize
     requires { cell < length cells.now }
     ensures below { result ≤ cell }
-    ensures used { 0 < result → sign_at (linked_row cells.now).row result ≢ 0 }
-    ensures most { (k : ℕ) → k ≤ cell → sign_at (linked_row cells.now).row k ≢ 0 → k ≤ result }
+    ensures used { 0 < result → sign_at (row_of cells.now) result ≢ 0 }
+    ensures most { (k : ℕ) → k ≤ cell → sign_at (row_of cells.now) k ≢ 0 → k ≤ result }
 {
     let mut at = cell;
     while at > 0 && !is_taken(cells, at) {
@@ -362,9 +360,7 @@ fn taken_up_to<V: Copy>(cells: &[Cell<V>], cell: usize) -> usize
 
 // Adds free cells until there are `count`. It fails where an index would not fit in a link.
 fn grow_cells<V: Copy>(cells: &mut Vec<Cell<V>>, count: usize, value: V) -> Result<(), AllocError>
-    requires linked { AreLinked (linked_row cells.old.items) }
-    requires small { length cells.old.items < CELLS_END }
-    ensures linked { AreLinked (linked_row cells.new.items) }
+    requires { length cells.old.items < CELLS_END }
     ensures small { length cells.new.items < CELLS_END }
     ensures extends { Extends (row_of cells.old.items) (row_of cells.new.items) }
     ensures length { OnOk result (count ≤ length cells.new.items) }

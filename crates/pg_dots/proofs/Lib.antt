@@ -1,3 +1,4 @@
 pub mod Rows
 pub mod Walks
 pub mod Places
+pub mod Shifts

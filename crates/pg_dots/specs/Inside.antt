@@ -2,3 +2,4 @@
 pub mod Walks
 pub mod Dots
 pub mod Positions
+pub mod Starts

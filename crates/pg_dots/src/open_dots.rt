@@ -6,6 +6,7 @@ ghost use Rattle.pg_types.specs.Inside.Limits.{positions_limit};
 
 use crate::bits::{ROOM_AT_LEAST, take_in_before, turn_others};
 use crate::position_set::PositionSet;
+use crate::start_set::StartSet;
 use crate::walk::Walk;
 use pg_types::LENGTH_MAX;
 use pg_types::bits::{NUMBER_BITS, clear, set};
@@ -37,8 +38,9 @@ pub struct OpenDots {
 
 impl OpenDots {
     ghost use Rattle.pg_dots.specs.Inside.Walks.{IsFirstFailing};
-    ghost use Rattle.pg_dots.specs.Inside.Dots.{is_closed, position_count, HasWalk};
+    ghost use Rattle.pg_dots.specs.Inside.Dots.{dot_row, is_closed, position_count, HasWalk};
     ghost use Rattle.pg_dots.specs.Inside.Positions.{is_among, positions_room};
+    ghost use Rattle.pg_dots.specs.Inside.Starts.{is_left_out, starts_room};
     ghost use Rattle.pg_dots.specs.Inside.Walks.{IsAhead};
 
     /// Each dot is closed at each of `size` positions, and no dot is reached.
@@ -123,15 +125,38 @@ impl OpenDots {
         walk.next(self.row(dot))
     }
 
-    /// The row of a dot.
+    /// The index of the row of a dot.
+    fn row_index(&self, dot: u8) -> usize
+        ensures { result ≡ dot_row self.now.reached dot }
+    {
+        let index = usize::from(dot);
+        if index < self.reached { index + 1 } else { 0 }
+    }
+
+    /// The row of a dot: that of all dots that are not reached, where it is not.
     fn row(&self, dot: u8) -> &[u64]
-        requires dot { dot < self.now.reached }
         ensures size { length result.now ≡ self.now.width }
         ensures bits { (i : ℕ) → i < position_count self.now
             → has_bit result.now i ≡ is_closed self.now dot i }
     {
-        let start = (usize::from(dot) + 1) * self.width;
+        let start = self.row_index(dot) * self.width;
         &self.bits[start..start + self.width]
+    }
+
+    /// Leaves in the set the signs whose window of `len` signs has an open dot, at the position where
+    /// that dot is in it, and perhaps some close to the end.
+    pub fn set_starts(&self, len: u8, starts: &mut StartSet)
+        requires { len ≤ LENGTH_MAX }
+        ensures room { starts_room starts.new ≡ starts_room starts.old }
+        ensures free { (d i : ℕ) → d ≤ len → i < starts_room starts.old
+            → i + d < position_count self.now → is_closed self.now d (i + d) ≡ false
+            → is_left_out starts.new i ≡ false }
+    {
+        starts.leave_out_all();
+        let end = len + 1;
+        'dots: for dot in 0..end {
+            starts.take_in(self.row(dot), usize::from(dot));
+        }
     }
 
     /// Closes a dot at a position.

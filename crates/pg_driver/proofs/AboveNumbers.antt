@@ -1,13 +1,13 @@
 -- The numbers of the windows at the positions whose value is above the level.
-use Rattle.std.proofs.Common.{◌≡◌, ℕ, ◌+◌, ◌≤◌, ◌<◌, Bool, true, false, cond, not, ◌&&◌, nat_lt, List, [], ◌∷◌, ◌++◌, length, fold, append-nil, slice_get, get_or, is_some, Option, Some, None, refl, sym, ap, subst, ◌∙◌, arith}
+use Rattle.std.proofs.Common.{◌≡◌, ℕ, ◌+◌, ◌≤◌, ◌<◌, Bool, true, false, cond, not, ◌&&◌, nat_lt, List, [], ◌∷◌, ◌++◌, length, fold, append-nil, slice_get, get_or, is_some, Option, Some, None, inl, inr, ◌⊎◌, refl, sym, ap, subst, ◌∙◌, arith}
 use Rattle.std.specs.List.{flat_map, slice_index_or, sum_by}
 use Rattle.std.proofs.lemmas.List.Sums.{sum_by-cons}
-use Rattle.std.specs.Option.{option_map, option_map_or}
+use Rattle.std.specs.Option.{option_map_or}
 use Rattle.std.proofs.lemmas.Bool.{and_from, and_parts}
 use Rattle.std.proofs.lemmas.Option.{slice_get_past}
 use Rattle.pg_types.specs.declared.parameters.LevelParams.{LevelParams}
 use Rattle.pg_types.specs.Inside.counting.Counts.{Counts, counted_sums, is_counted}
-use Rattle.pg_types.specs.Inside.counting.NumberedWindows.{Windows, HasNumber, AreNumbered}
+use Rattle.pg_types.specs.Inside.counting.NumberedWindows.{Windows, HasNumber}
 use Rattle.pg_dict.specs.Word.{Word}
 use Rattle.pg_select.specs.declared.choice.Choice.{Choice}
 use Rattle.pg_select.specs.declared.pass.Pass.{Pass}
@@ -26,13 +26,13 @@ use Rattle.pg_select.proofs.LawsCounts.{is_counted_window}
 use Rattle.pg_driver.specs.declared.counting.above_positions.ChosenWeights.{ChosenWeights}
 use Rattle.pg_driver.specs.declared.pass_windows.WordPosition.{WordPosition}
 use Rattle.pg_driver.specs.declared.pass_windows.TheConstants.{NO_NUMBER}
-use Rattle.pg_driver.specs.Inside.counting.Counting.{IsRead, meaning_after_counting}
+use Rattle.pg_driver.specs.Inside.counting.Counting.{IsRead}
 use Rattle.pg_driver.specs.Inside.counting.OpenLevels.{open_as}
 use Rattle.pg_driver.specs.Inside.counting.OpenPositions.{counted_in, counted_of}
-use Rattle.pg_driver.specs.Inside.level.PassWindows.{AreFates, GetsNumber, HaveNumbers, IsNumbered, is_counted_at, uncovered_at}
+use Rattle.pg_driver.specs.Inside.level.PassWindows.{AreFates, GetsNumber, HaveNumbers, IsNumbered, fate_of_sums, is_counted_at, uncovered_at}
 use Rattle.pg_driver.specs.Inside.choices.Fates.{chooses}
 use Rattle.pg_driver.specs.Inside.counting.WordLevels.{bad_weight_chosen, good_weight_chosen, chosen_weights, was_chosen, with_chosen}
-use Rattle.pg_driver.proofs.NumberSteps.{fate_there, have_more, still_have}
+use Rattle.pg_driver.proofs.NumberSteps.{have_more}
 use Rattle.pg_driver.proofs.OpenLevels.{found_is}
 
 -- a position of a level that counts by its status has its number
@@ -45,7 +45,7 @@ numbered_by pass P H words ws w word p n at counts gets = record {
       let same : v ≡ w = cc in
       subst (λ (x : Word). HasNumber ws (window x.signs p pass.len pass.dot) n) (sym same)
       (by_true (counts_as pass.level (status_at P w p)) _ (ap (λ (x : Word). test x) (sym same) ∙ is) counts gets));
-  uncounted = λ v to is. (
+  uncounted = λ v to is. inl (
       let both : Some v ≡ Some w = sym to ∙ at in
       let same : v ≡ w = cc in
       by_false (counts_as pass.level (status_at P w p)) _ (ap (λ (x : Word). test x) (sym same) ∙ is) gets);
@@ -85,24 +85,22 @@ above_found m w found level p mark read within is =
     λ i. is_some (cond (nat_lt level (value i)) (counts_as level (same i)) None)
 
 -- the numbers after a position
-pub number_noted : (pass : Pass) (P : Patterns) (H : Hopeless) (words : List Word) (m n : Meaning) (seen : List CountedPosition) (entries : List WordPosition)
+pub number_noted : (pass : Pass) (P : Patterns) (H : Hopeless) (words : List Word) (ws : Windows) (entries : List WordPosition)
     (ns more : List ℕ) (w : Word) (word p number : ℕ)
-    → n ≡ meaning_after_counting m seen → slice_get words word ≡ Some w → GetsNumber (counted_at pass P H w p) n.windows (window w.signs p pass.len pass.dot) number
+    → slice_get words word ≡ Some w → GetsNumber (counted_at pass P H w p) ws (window w.signs p pass.len pass.dot) number
     → more ≡ cond (is_some (counts_above pass.level P w p)) (ns ++ number ∷ []) ns
-    → HaveNumbers pass (uncovered_at pass P H) words m.windows entries ns
-    → HaveNumbers pass (uncovered_at pass P H) words n.windows (entries ++ open_as word p (counts_above pass.level P w p)) more
-number_noted pass P H words m n seen entries ns more w word p number is at gets noted have =
-    subst (HaveNumbers pass (uncovered_at pass P H) words n.windows (entries ++ open_as word p (counts_above pass.level P w p))) (sym noted)
+    → HaveNumbers pass (uncovered_at pass P H) words ws entries ns
+    → HaveNumbers pass (uncovered_at pass P H) words ws (entries ++ open_as word p (counts_above pass.level P w p)) more
+number_noted pass P H words ws entries ns more w word p number at gets noted have =
+    subst (HaveNumbers pass (uncovered_at pass P H) words ws (entries ++ open_as word p (counts_above pass.level P w p))) (sym noted)
     (by (counts_above pass.level P w p) (above_counts pass.level (value_at P w.signs p) (counts_as pass.level (status_at P w p))))
   where
     by : (o : Option Bool) → (is_some o ≡ true → is_some (counts_as pass.level (status_at P w p)) ≡ true)
-        → HaveNumbers pass (uncovered_at pass P H) words n.windows (entries ++ open_as word p o) (cond (is_some o) (ns ++ number ∷ []) ns)
-    by None counts = subst (λ (es : List WordPosition). HaveNumbers pass (uncovered_at pass P H) words n.windows es ns) (sym (append-nil entries))
-        (still_have pass (uncovered_at pass P H) words m n seen entries ns is have)
+        → HaveNumbers pass (uncovered_at pass P H) words ws (entries ++ open_as word p o) (cond (is_some o) (ns ++ number ∷ []) ns)
+    by None counts = subst (λ (es : List WordPosition). HaveNumbers pass (uncovered_at pass P H) words ws es ns) (sym (append-nil entries)) have
     by (Some good) counts =
-        have_more pass (uncovered_at pass P H) words n.windows entries ns (record { word = word; at = p }) number
-        (still_have pass (uncovered_at pass P H) words m n seen entries ns is have)
-        (numbered_by pass P H words n.windows w word p number at (counts refl) gets)
+        have_more pass (uncovered_at pass P H) words ws entries ns (record { word = word; at = p }) number have
+        (numbered_by pass P H words ws w word p number at (counts refl) gets)
 
 -- once a pass is counted, what is not covered is what is counted
 covered_not_counted : (m : Minima) (words : List Word) (pass : Pass) (P : Patterns) (H : Hopeless) (counts : Counts) (u : List ℕ) → counts
@@ -116,7 +114,7 @@ covered_not_counted m words pass P H counts u are is =
     by true wrong = absurd (let clash : true ≡ false = wrong refl in cc)
     by false wrong = refl
 
-module _ (pass : Pass) (P : Patterns) (H : Hopeless) (words : List Word) (counts : Counts) (ws : Windows) (are : AreNumbered ws counts)
+module _ (pass : Pass) (P : Patterns) (H : Hopeless) (words : List Word) (counts : Counts) (ws : Windows)
     (uncounted : (u : List ℕ) → is_covered pass.level P H u pass.dot ≡ true → is_counted counts u ≡ false) (e : WordPosition) (n : ℕ) (is : IsNumbered pass (uncovered_at pass P H) words ws e n) where
   is_uncovered : (w : Word) (f c : Bool) → (f && is_counted counts (window w.signs e.at pass.len pass.dot)) ≡ true
       → (c ≡ true → is_counted counts (window w.signs e.at pass.len pass.dot) ≡ false) → (f && not c) ≡ true
@@ -124,59 +122,65 @@ module _ (pass : Pass) (P : Patterns) (H : Hopeless) (words : List Word) (counts
   is_uncovered w true true have lack = absurd (let wrong : false ≡ true = sym (lack refl) ∙ have in cc)
   is_uncovered w true false have lack = refl
 
-  not_counted : (w : Word) → slice_get words e.word ≡ Some w → is_counted_at pass counts w e ≡ false → (b : Bool) → uncovered_at pass P H w e ≡ b → n ≡ NO_NUMBER
-  not_counted w at lack false free = is.uncounted w at free
-  not_counted w at lack true free = absurd (
-      let counted : is_counted counts (window w.signs e.at pass.len pass.dot) ≡ true = are.counted (window w.signs e.at pass.len pass.dot) n (is.counted w at free) in
-      let parts = and_parts (fits w.signs e.at pass.len pass.dot) (not (is_covered pass.level P H (window w.signs e.at pass.len pass.dot) pass.dot)) free in
-      let wrong : false ≡ true = sym lack ∙ and_from (fits w.signs e.at pass.len pass.dot) (is_counted counts (window w.signs e.at pass.len pass.dot)) parts.0 counted in
-      cc)
+  not_counted : (w : Word) → slice_get words e.word ≡ Some w → (b : Bool) → uncovered_at pass P H w e ≡ b
+      → (n ≡ NO_NUMBER) ⊎ ((fits w.signs e.at pass.len pass.dot ≡ true) × HasNumber ws (window w.signs e.at pass.len pass.dot) n)
+  not_counted w at false free = is.uncounted w at free
+  not_counted w at true free = inr (
+    (and_parts (fits w.signs e.at pass.len pass.dot) (not (is_covered pass.level P H (window w.signs e.at pass.len pass.dot) pass.dot)) free).0,
+    is.counted w at free,
+  )
 
   as_counted : IsNumbered pass (is_counted_at pass counts) words ws e n
   as_counted = record {
     counted = λ w at have. is.counted w at (is_uncovered w (fits w.signs e.at pass.len pass.dot) (is_covered pass.level P H (window w.signs e.at pass.len pass.dot) pass.dot) have
         (uncounted (window w.signs e.at pass.len pass.dot)));
-    uncounted = λ w at lack. not_counted w at lack (uncovered_at pass P H w e) refl;
+    uncounted = λ w at lack. not_counted w at (uncovered_at pass P H w e) refl;
   }
 
 pub numbered_as_counted : (m : Minima) (words : List Word) (pass : Pass) (P : Patterns) (H : Hopeless) (counts : Counts) (ws : Windows) (entries : List WordPosition) (ns : List ℕ)
-    → AreNumbered ws counts → counts ≡ fold with_position [] (counted_positions m words pass P H)
+    → counts ≡ fold with_position [] (counted_positions m words pass P H)
     → HaveNumbers pass (uncovered_at pass P H) words ws entries ns → HaveNumbers pass (is_counted_at pass counts) words ws entries ns
-numbered_as_counted m words pass P H counts ws entries ns are counted have = record {
+numbered_as_counted m words pass P H counts ws entries ns counted have = record {
   size = have.size;
-  each = λ k e n at to. as_counted pass P H words counts ws are (λ u hidden. covered_not_counted m words pass P H counts u counted hidden) e n (have.each k e n at to);
+  each = λ k e n at to. as_counted pass P H words counts ws (λ u hidden. covered_not_counted m words pass P H counts u counted hidden) e n (have.each k e n at to);
 }
 
 -- a listed position was chosen where its number says so
-pub chosen_by_number : (params : LevelParams) (counts : Counts) (ws : Windows) (fates : List Choice) → AreNumbered ws counts → AreFates params counts ws fates → length fates ≤ NO_NUMBER
+pub chosen_by_number : (params : LevelParams) (counts : Counts) (ws : Windows) (fates : List Choice) → AreFates params counts ws fates → length fates ≤ NO_NUMBER
     → (pass : Pass) (words : List Word) (e : WordPosition) (n : ℕ) (w : Word) → slice_get words e.word ≡ Some w → IsNumbered pass (is_counted_at pass counts) words ws e n
     → option_map_or chooses (slice_get fates n) false ≡ (fits w.signs e.at pass.len pass.dot && was_chosen params counts (window w.signs e.at pass.len pass.dot))
-chosen_by_number params counts ws fates are decided few pass words e n w at is = by (is_counted_at pass counts w e) refl
+chosen_by_number params counts ws fates decided few pass words e n w at is = by (is_counted_at pass counts w e) refl
   where
     u : List ℕ
     u = window w.signs e.at pass.len pass.dot
 
-    by_choice : (o : Option (ℕ × ℕ)) → option_map_or chooses (option_map (λ (sums : ℕ × ℕ). choice params sums.0 sums.1) o) false
-        ≡ option_map_or (λ (sums : ℕ × ℕ). chooses (choice params sums.0 sums.1)) o false
-    by_choice None = refl
-    by_choice (Some sums) = refl
+    by_fate : (o : Option (ℕ × ℕ)) → chooses (fate_of_sums params o) ≡ option_map_or (λ (sums : ℕ × ℕ). chooses (choice params sums.0 sums.1)) o false
+    by_fate None = refl
+    by_fate (Some sums) = refl
 
     none : (o : Option (ℕ × ℕ)) (f : Bool) → (f && is_some o) ≡ false → false ≡ (f && option_map_or (λ (sums : ℕ × ℕ). chooses (choice params sums.0 sums.1)) o false)
     none o false is = refl
     none None true is = refl
     none (Some sums) true is = absurd (let wrong : true ≡ false = is in cc)
 
+    by_number : HasNumber ws (window w.signs e.at pass.len pass.dot) n → fits w.signs e.at pass.len pass.dot ≡ true
+        → option_map_or chooses (slice_get fates n) false ≡ (fits w.signs e.at pass.len pass.dot && was_chosen params counts (window w.signs e.at pass.len pass.dot))
+    by_number has fit =
+        ap (λ (o : Option Choice). option_map_or chooses o false) (decided.each (window w.signs e.at pass.len pass.dot) n has)
+        ∙ by_fate (counted_sums counts (window w.signs e.at pass.len pass.dot))
+        ∙ ap (λ (f : Bool). f && was_chosen params counts (window w.signs e.at pass.len pass.dot)) (sym fit)
+
     by : (b : Bool) → is_counted_at pass counts w e ≡ b → option_map_or chooses (slice_get fates n) false
         ≡ (fits w.signs e.at pass.len pass.dot && was_chosen params counts (window w.signs e.at pass.len pass.dot))
     by true have =
         let parts = and_parts (fits w.signs e.at pass.len pass.dot) (is_counted counts (window w.signs e.at pass.len pass.dot)) have in
-        ap (λ (o : Option Choice). option_map_or chooses o false) (sym (fate_there params counts ws fates are decided (window w.signs e.at pass.len pass.dot) n (is.counted w at have)))
-        ∙ by_choice (counted_sums counts (window w.signs e.at pass.len pass.dot))
-        ∙ ap (λ (f : Bool). f && was_chosen params counts (window w.signs e.at pass.len pass.dot)) (sym parts.0)
-    by false lack =
-        let past : slice_get fates n ≡ None = slice_get_past fates n (let e = is.uncounted w at lack in omega arith) in
-        ap (λ (o : Option Choice). option_map_or chooses o false) past
-        ∙ none (counted_sums counts (window w.signs e.at pass.len pass.dot)) (fits w.signs e.at pass.len pass.dot) lack
+        by_number (is.counted w at have) parts.0
+    by false lack = elim (is.uncounted w at lack) [
+      | inl unset ↦
+          ap (λ (o : Option Choice). option_map_or chooses o false) (slice_get_past fates n (omega arith))
+          ∙ none (counted_sums counts (window w.signs e.at pass.len pass.dot)) (fits w.signs e.at pass.len pass.dot) lack
+      | inr has ↦ by_number has.1 has.0
+    ]
 
 -- the weights with those of a position more
 module _ (params : LevelParams) (pass : Pass) (counts : Counts) (words : List Word) where

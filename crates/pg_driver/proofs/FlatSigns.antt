@@ -1,5 +1,5 @@
 -- Windows in the row of the signs of all words, and the rows of their sites and weights.
-use Rattle.std.proofs.Common.{◌≡◌, ℕ, zero, suc, ◌+◌, ◌-◌, ◌≤◌, ◌<◌, nat_le, Bool, true, false, cond, ◌&&◌, List, [], ◌∷◌, ◌++◌, length, take, drop, get_or, slice_get, Option, Some, None, refl, sym, ap, subst, ◌∙◌, arith, length-append, length-drop}
+use Rattle.std.proofs.Common.{◌≡◌, ℕ, zero, suc, ◌+◌, ◌-◌, ◌≤◌, ◌<◌, nat_le, Bool, true, false, cond, ◌&&◌, List, [], ◌∷◌, ◌++◌, length, take, drop, fold, get_or, slice_get, Option, Some, None, refl, sym, ap, subst, ◌∙◌, arith, length-append, length-drop}
 use Rattle.std.specs.List.{All, flat_map, range_with_len}
 use Rattle.std.specs.Option.{option_map, option_map_or}
 use Rattle.std.proofs.lemmas.Bool.{and_parts, leb-true}
@@ -7,23 +7,19 @@ use Rattle.std.proofs.lemmas.List.{drop-append-le, drop-drop, drop_at, length-ma
 use Rattle.std.proofs.lemmas.List.Elements.{All-head, All-tail}
 use Rattle.std.proofs.lemmas.List.FromFn.{length-range_with_len}
 use Rattle.std.proofs.lemmas.Option.{get_or_from_slice_get, slice_get_within, slice_get-get_or, slice_get-map}
-use Rattle.pg_types.specs.Inside.counting.NumberedWindows.{HasNumber, Windows}
+use Rattle.pg_types.specs.Inside.counting.Counts.{Counts, with_count}
 use Rattle.pg_dict.specs.declared.sites.Site.{Site}
 use Rattle.pg_dict.specs.Inside.Sites.{all_sites, site_of, sites_in}
 use Rattle.pg_dict.proofs.WordStore.Told.{word_in}
 use Rattle.pg_dict.specs.Inside.SoundWords.{IsWord}
 use Rattle.pg_dict.specs.Inside.Store.{all_signs, all_weights}
 use Rattle.pg_dict.specs.Word.{Word}
-use Rattle.pg_select.specs.declared.pass.Pass.{Pass}
 use Rattle.pg_select.specs.Inside.laws.ClosedDots.{is_good, pass_at}
-use Rattle.pg_select.specs.Inside.engine.Meanings.{Meaning, after_count}
+use Rattle.pg_select.specs.Inside.engine.Meanings.{with_position}
 use Rattle.pg_select.specs.Statuses.{position_weight}
 use Rattle.pg_select.specs.Windows.{window, fits}
-use Rattle.pg_driver.specs.declared.pass_windows.TheConstants.{NO_NUMBER}
-use Rattle.pg_driver.specs.Inside.counting.Counting.{meaning_after_counting}
 use Rattle.pg_driver.specs.Inside.counting.OpenPositions.{counted_in, counted_of}
 use Rattle.pg_driver.specs.Inside.counting.OpenSigns.{sign_count, start_of}
-use Rattle.pg_driver.specs.Inside.level.PassWindows.{IsNumbered, counts_at}
 use Rattle.pg_driver.proofs.NumberSteps.{get_left, get_right}
 use Rattle.pg_driver.proofs.OpenSigns.{IsSignOf, range_get, sign_of, start_before, start_past}
 
@@ -152,50 +148,25 @@ weight_at words weights sign d of are each =
     (slice_get-get_or of.word.weights of.at 0 (omega (arith, of.within, word.weights_len))))
 
 -- what a pass counts at a position of a word where its window fits
-module _ (m : Meaning) (level len dot : ℕ) (words : List Word) (n p : ℕ) (w : Word) (at : slice_get words n ≡ Some w) where
-  pub counted_there : meaning_after_counting m (counted_of (pass_at level len dot) words (record { word = n; at = p })) ≡ meaning_after_counting m (counted_in (pass_at level len dot) w p)
-  counted_there = ap (λ (o : Option Word). meaning_after_counting m (option_map_or (λ (v : Word). counted_in (pass_at level len dot) v p) o [])) at
+module _ (cs : Counts) (level len dot : ℕ) (words : List Word) (n p : ℕ) (w : Word) (at : slice_get words n ≡ Some w) where
+  pub counted_there : fold with_position cs (counted_of (pass_at level len dot) words (record { word = n; at = p })) ≡ fold with_position cs (counted_in (pass_at level len dot) w p)
+  counted_there = ap (λ (o : Option Word). fold with_position cs (option_map_or (λ (v : Word). counted_in (pass_at level len dot) v p) o [])) at
 
   pub counted_fit : (u : List ℕ) (good : Bool) (weight : ℕ) → fits w.signs p len dot ≡ true → u ≡ window w.signs p len dot → good ≡ is_good level w p → weight ≡ position_weight w p
-      → after_count m u good weight ≡ meaning_after_counting m (counted_of (pass_at level len dot) words (record { word = n; at = p }))
+      → with_count cs u good weight ≡ fold with_position cs (counted_of (pass_at level len dot) words (record { word = n; at = p }))
   counted_fit u good weight fit u_is good_is weight_is =
-      (λ i. after_count m (u_is i) (good_is i) (weight_is i)) ∙ sym (by (fits w.signs p len dot) fit) ∙ sym counted_there
+      (λ i. with_count cs (u_is i) (good_is i) (weight_is i)) ∙ sym (by (fits w.signs p len dot) fit) ∙ sym counted_there
     where
-      by : (b : Bool) → b ≡ true → meaning_after_counting m (option_map_or (λ good. record { window = window w.signs p len dot; good = good; weight = position_weight w p } ∷ [])
-          (cond (b && true) (Some (is_good level w p)) None) []) ≡ after_count m (window w.signs p len dot) (is_good level w p) (position_weight w p)
+      by : (b : Bool) → b ≡ true → fold with_position cs (option_map_or (λ good. record { window = window w.signs p len dot; good = good; weight = position_weight w p } ∷ [])
+          (cond (b && true) (Some (is_good level w p)) None) []) ≡ with_count cs (window w.signs p len dot) (is_good level w p) (position_weight w p)
       by true e = refl
       by false e = absurd (let wrong : false ≡ true = e in cc)
 
   -- and where it does not
-  pub counted_none : fits w.signs p len dot ≡ false → meaning_after_counting m (counted_of (pass_at level len dot) words (record { word = n; at = p })) ≡ m
+  pub counted_none : fits w.signs p len dot ≡ false → fold with_position cs (counted_of (pass_at level len dot) words (record { word = n; at = p })) ≡ cs
   counted_none other = counted_there ∙ by (fits w.signs p len dot) other
     where
-      by : (b : Bool) → b ≡ false → meaning_after_counting m (option_map_or (λ good. record { window = window w.signs p len dot; good = good; weight = position_weight w p } ∷ [])
-          (cond (b && true) (Some (is_good level w p)) None) []) ≡ m
+      by : (b : Bool) → b ≡ false → fold with_position cs (option_map_or (λ good. record { window = window w.signs p len dot; good = good; weight = position_weight w p } ∷ [])
+          (cond (b && true) (Some (is_good level w p)) None) []) ≡ cs
       by true e = absurd (let wrong : true ≡ false = e in cc)
       by false e = refl
-
--- the number of such a position
-module _ (pass : Pass) (words : List Word) (ws : Windows) (n p : ℕ) (w : Word) (k : ℕ) (at : slice_get words n ≡ Some w) where
-  pub numbered_fit : fits w.signs p pass.len pass.dot ≡ true → HasNumber ws (window w.signs p pass.len pass.dot) k → IsNumbered pass (counts_at pass) words ws (record { word = n; at = p }) k
-  numbered_fit fit has = record {
-    counted = λ v to is. (
-        let both : Some w ≡ Some v = sym at ∙ to in
-        let same : w ≡ v = cc in
-        subst (λ (x : Word). HasNumber ws (window x.signs p pass.len pass.dot) k) same has);
-    uncounted = λ v to is. absurd (
-        let both : Some w ≡ Some v = sym at ∙ to in
-        let same : w ≡ v = cc in
-        let wrong : true ≡ false = sym fit ∙ ap (λ (x : Word). fits x.signs p pass.len pass.dot) same ∙ is in
-        cc);
-  }
-
-  pub numbered_none : fits w.signs p pass.len pass.dot ≡ false → k ≡ NO_NUMBER → IsNumbered pass (counts_at pass) words ws (record { word = n; at = p }) k
-  numbered_none other is = record {
-    counted = λ v to fit. absurd (
-        let both : Some w ≡ Some v = sym at ∙ to in
-        let same : w ≡ v = cc in
-        let wrong : false ≡ true = sym other ∙ ap (λ (x : Word). fits x.signs p pass.len pass.dot) same ∙ fit in
-        cc);
-    uncounted = λ v to no. is;
-  }

@@ -32,6 +32,6 @@ pub mod WordLevels
 pub mod AboveNumbers
 pub mod ReadySteps
 pub mod NumberSteps
+pub mod StartSteps
 pub mod SeenCandidates
-pub mod Numbered
 pub mod RunSigns

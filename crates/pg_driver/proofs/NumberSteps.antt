@@ -1,32 +1,20 @@
 -- Steps of a pass by the numbers of its windows.
 use Rattle.std.proofs.Common.{◌≡◌, ℕ, zero, suc, ◌+◌, ◌<◌, Bool, true, false, cond, ◌&&◌, T, List, [], ◌∷◌, ◌++◌, filter, length, map, slice_get, is_some, Option, Some, None, inl, inr, refl, sym, ap, subst, ◌∙◌, arith, length-append}
-use Rattle.std.specs.Option.{option_map, option_map_or}
 use Rattle.std.specs.Ordering.{is_eq, eq_by_cmp, ordering_reverse}
 use Rattle.std.specs.declared.cmp.Ordering.TheVariants.{Less, Greater}
 use Rattle.std.specs.Cmp.{tied_itself}
 use Rattle.std.specs.Cmp.Lexicographic.{nat_list_cmp_total}
 use Rattle.std.specs.FinMap.Entries.{find, is_sorted, below_all}
 use Rattle.std.proofs.lemmas.Bool.{cases_eq, cases_lt}
-use Rattle.std.proofs.lemmas.List.{length-map}
 use Rattle.std.proofs.lemmas.Option.{slice_get_cases, slice_get_within}
 use Rattle.pg_types.proofs.BoolFacts.{first_half, second_half}
 use Rattle.pg_types.proofs.EntryLists.{below_get}
-use Rattle.pg_types.specs.declared.parameters.LevelParams.{LevelParams}
 use Rattle.pg_types.specs.Inside.counting.Counts.{Counts, counted_sums, is_counted}
-use Rattle.pg_types.specs.Inside.counting.NumberedWindows.{Windows, HasNumber, AreInOrder, AreNumbered, with_next_window}
+use Rattle.pg_types.specs.Inside.counting.NumberedWindows.{Windows, HasNumber, AreInOrder}
 use Rattle.pg_dict.specs.Word.{Word}
-use Rattle.pg_select.specs.declared.choice.Choice.{Choice}
 use Rattle.pg_select.specs.declared.pass.Pass.{Pass}
-use Rattle.pg_select.specs.Inside.Choices.{choice}
-use Rattle.pg_select.specs.Statuses.{position_weight}
-use Rattle.pg_select.specs.Inside.laws.ClosedDots.{is_good, pass_at}
-use Rattle.pg_select.specs.Windows.{window, fits}
 use Rattle.pg_driver.specs.declared.pass_windows.WordPosition.{WordPosition}
-use Rattle.pg_driver.specs.Inside.level.PassWindows.{IsNumbered, HaveNumbers, AreFates, IsPart}
-use Rattle.pg_select.specs.CountedPositions.{CountedPosition}
-use Rattle.pg_select.specs.Inside.engine.Meanings.{Meaning, with_position}
-use Rattle.pg_driver.specs.Inside.counting.Counting.{meaning_after_counting, windows_after}
-use Rattle.pg_driver.specs.Inside.counting.OpenPositions.{counted_in}
+use Rattle.pg_driver.specs.Inside.level.PassWindows.{IsNumbered, HaveNumbers, IsPart}
 use Rattle.pg_driver.proofs.Puts.{cmp}
 
 -- the word of a placed position
@@ -35,15 +23,6 @@ word_there xs i lt = elim (slice_get_cases xs i).1 [
   | inl here ↦ (here.0, here.2)
   | inr past ↦ absurd (let le = past.0 in omega arith)
 ]
-
--- what becomes of a window that has a number
-module _ (params : LevelParams) (counts : Counts) (ws : Windows) (fates : List Choice) (are : AreNumbered ws counts) (decided : AreFates params counts ws fates) where
-  pub fate_there : (u : List ℕ) (n : ℕ) → HasNumber ws u n → option_map (λ sums. choice params sums.0 sums.1) (counted_sums counts u) ≡ slice_get fates n
-  fate_there u n at = by (counted_sums counts u) refl
-    where
-      by : (o : Option (ℕ × ℕ)) → counted_sums counts u ≡ o → option_map (λ sums. choice params sums.0 sums.1) (counted_sums counts u) ≡ slice_get fates n
-      by None is = absurd (let wrong : false ≡ true = sym (ap is_some is) ∙ are.counted u n at in cc)
-      by (Some sums) is = ap (option_map (λ sums. choice params sums.0 sums.1)) is ∙ sym (decided.each u n sums at is)
 
 -- an entry is found at its window
 find_at : (es : Counts) (k : ℕ) (e : List ℕ × (ℕ × ℕ)) → T (is_sorted cmp es) → slice_get es k ≡ Some e → find cmp e.0 es ≡ Some e.1
@@ -84,12 +63,6 @@ ahead ws counts n more (e ∷ rest) is part =
       next = (let t : map (slice_get ws) more ≡ map (λ e. Some e.0) rest = cc in t);
       part = λ k x at. part (suc k) x at;
     }
-
--- the numbers in the order of signs are those of all windows
-pub order_whole : (ws : Windows) (counts : Counts) (ns : List ℕ) → AreNumbered ws counts → AreInOrder ws counts ns → length ns ≡ length ws
-order_whole ws counts ns numbered order =
-    let sizes : length (map (slice_get ws) ns) ≡ length (map (λ (e : List ℕ × (ℕ × ℕ)). Some e.0) counts) = ap (λ (os : List (Option (List ℕ))). length os) order in
-    omega (arith, sizes, length-map ns (slice_get ws), length-map counts (λ (e : List ℕ × (ℕ × ℕ)). Some e.0), numbered.size)
 
 -- each of the numbers in the order of signs is that of a window
 pub order_there : (ws : Windows) (counts : Counts) (ns : List ℕ) → AreInOrder ws counts ns → (k n : ℕ) → slice_get ns k ≡ Some n → n < length ws
@@ -149,55 +122,6 @@ get_last xs y k x e late =
     let both : Some x ≡ Some y = sym e ∙ get_seam xs y k at in
     let same : x ≡ y = cc in
     (same, at)
-
--- a window keeps its number while more are counted
-window_stays : (ws : Windows) (counts : Counts) (u v : List ℕ) (n : ℕ) → HasNumber ws v n → HasNumber (with_next_window ws counts u) v n
-window_stays ws counts u v n at = elim (is_counted counts u) as (λ (b : Bool). HasNumber (cond b ws (ws ++ u ∷ [])) v n) [ true ↦ at | false ↦ get_left ws (u ∷ []) n v at ]
-
-pub number_stays : (ws : Windows) (counts : Counts) (seen : List CountedPosition) (v : List ℕ) (n : ℕ) → HasNumber ws v n → HasNumber (windows_after ws counts seen) v n
-number_stays ws counts [] v n at = at
-number_stays ws counts (s ∷ seen) v n at = number_stays (with_next_window ws counts s.window) (with_position counts s) seen v n (window_stays ws counts s.window v n at)
-
-pub still_numbered : (pass : Pass) (test : Word → WordPosition → Bool) (words : List Word) (m n : Meaning) (seen : List CountedPosition) (e : WordPosition) (k : ℕ)
-    → n ≡ meaning_after_counting m seen → IsNumbered pass test words m.windows e k → IsNumbered pass test words n.windows e k
-still_numbered pass test words m n seen e k is numbered =
-    let grown : n.windows ≡ windows_after m.windows m.counts seen = ap (λ (x : Meaning). x.windows) is in
-    record {
-      counted = λ w at counts.
-          subst (λ (ws : Windows). HasNumber ws (window w.signs e.at pass.len pass.dot) k) (sym grown)
-          (number_stays m.windows m.counts seen (window w.signs e.at pass.len pass.dot) k (numbered.counted w at counts));
-      uncounted = numbered.uncounted;
-    }
-
--- what one position adds to the windows
-pub window_in : (ws : Windows) (counts : Counts) (level len dot : ℕ) (w : Word) (p : ℕ) → fits w.signs p len dot ≡ true → windows_after ws counts (counted_in (pass_at level len dot) w p)
-    ≡ with_next_window ws counts (window w.signs p len dot)
-window_in ws counts level len dot w p fit = by (fits w.signs p len dot) fit
-  where
-    by : (b : Bool) → b ≡ true → windows_after ws counts (option_map_or (λ good. record { window = window w.signs p len dot; good = good; weight = position_weight w p } ∷ [])
-        (cond (b && true) (Some (is_good level w p)) None) []) ≡ with_next_window ws counts (window w.signs p len dot)
-    by true e = refl
-    by false e = absurd (let wrong : false ≡ true = e in cc)
-
--- the elements of all that pass are among all
-pub filter_from : {X : Type 0} (test : X → Bool) (P : X → Type 0) (xs : List X) → ((k : ℕ) (x : X) → slice_get xs k ≡ Some x → P x) → (k : ℕ) (x : X)
-    → slice_get (filter test xs) k ≡ Some x → (P x) × (test x ≡ true)
-filter_from test P [] all k x at = absurd (let none : None ≡ Some x = at in cc)
-filter_from {X} test P (y ∷ xs) all k x at = by (test y) refl (λ j there. filter_from test P xs (λ i z here. all (suc i) z here) j x there) k at
-  where
-    by : (b : Bool) → test y ≡ b → ((j : ℕ) → slice_get (filter test xs) j ≡ Some x → (P x) × (test x ≡ true)) → (k : ℕ)
-        → slice_get (cond b (y ∷ filter test xs) (filter test xs)) k ≡ Some x → (P x) × (test x ≡ true)
-    by true is later zero at = (let same : y ≡ x = (let both : Some y ≡ Some x = at in cc) in (subst P same (all 0 y refl), ap test (sym same) ∙ is))
-    by true is later (suc k) at = later k at
-    by false is later k at = later k at
-
--- positions keep their numbers while more is counted
-pub still_have : (pass : Pass) (test : Word → WordPosition → Bool) (words : List Word) (m n : Meaning) (seen : List CountedPosition) (entries : List WordPosition) (ns : List ℕ)
-    → n ≡ meaning_after_counting m seen → HaveNumbers pass test words m.windows entries ns → HaveNumbers pass test words n.windows entries ns
-still_have pass test words m n seen entries ns is have = record {
-  size = have.size;
-  each = λ k e x at to. still_numbered pass test words m n seen e x is (have.each k e x at to);
-}
 
 -- a position more
 pub have_more : (pass : Pass) (test : Word → WordPosition → Bool) (words : List Word) (ws : Windows) (entries : List WordPosition) (ns : List ℕ) (e : WordPosition) (n : ℕ)

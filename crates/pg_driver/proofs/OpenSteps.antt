@@ -3,16 +3,16 @@ use Rattle.std.proofs.Common.{◌≡◌, ℕ, ◌+◌, ◌-◌, ◌^◌, ◌≤�
 use Rattle.std.specs.List.{All, flat_map, range_with_len, sum_by}
 use Rattle.std.proofs.lemmas.List.Elements.{All-head, All-tail}
 use Rattle.std.proofs.lemmas.List.Sums.{sum_by-cons}
-use Rattle.std.specs.Option.{option_map_or}
+use Rattle.std.specs.Option.{IfSome, option_map_or}
 use Rattle.std.specs.FinMap.Entries.{find}
 use Rattle.pg_dict.specs.Word.{Word}
 use Rattle.pg_dict.specs.Inside.SoundWords.{IsWord, letter_count}
 use Rattle.pg_types.specs.Inside.counting.Counts.{Counts}
-use Rattle.pg_select.specs.Inside.engine.Meanings.{Meaning, with_position}
+use Rattle.pg_select.specs.Inside.engine.Meanings.{with_position}
 use Rattle.pg_select.specs.CountedPositions.{Minima}
 use Rattle.pg_select.specs.Statuses.{position_weight}
 use Rattle.pg_select.specs.Windows.{window, fits}
-use Rattle.pg_driver.specs.Inside.counting.Counting.{meaning_after_counting, HasRoom, TookRoom}
+use Rattle.pg_driver.specs.Inside.counting.Counting.{HasRoom, TookRoom}
 use Rattle.pg_select.proofs.MarkSteps.{weight_small}
 use Rattle.pg_driver.proofs.Puts.{cmp, weight_found}
 use Rattle.pg_select.proofs.Reaches.{range_step}
@@ -51,11 +51,15 @@ found_small counts u n good bad room is =
     let second : bad ≡ (unwrap_or (find cmp u counts) (0, 0)).1 = ap (λ (o : Option (ℕ × ℕ)). (unwrap_or {T = ℕ × ℕ} o (0, 0)).1) is in
     (omega (arith, weight_found u counts, room.light), omega (arith, weight_found u counts, room.light))
 
--- and so for a meaning that counts it
-pub took_entry : (m n : Meaning) (level len dot : ℕ) (w : Word) (p k : ℕ) → 1 ≤ len → IsWord w → p < length w.signs → HasRoom m.counts k → n
-    ≡ meaning_after_counting m (counted_in (pass_at level len dot) w p) → TookRoom m.counts n.counts 1
-took_entry m n level len dot w p k long word within room is =
-    subst (λ (cs : Counts). TookRoom m.counts cs 1) (ap (λ (x : Meaning). x.counts) (sym is)) (took_in m.counts level len dot w p k long word within room)
+pub small_sums : (counts : Counts) (u : List ℕ) (n : ℕ) (o : Option (ℕ × ℕ)) → HasRoom counts n → o ≡ find cmp u counts → IfSome o (λ s. (s.0 < 2 ^ 40) × (s.1 < 2 ^ 40))
+small_sums counts u n None room is = tt
+small_sums counts u n (Some s) room is = found_small counts u n s.0 s.1 room is
+
+-- and so for counts with it
+pub took_entry : (cs ds : Counts) (level len dot : ℕ) (w : Word) (p k : ℕ) → 1 ≤ len → IsWord w → p < length w.signs → HasRoom cs k → ds
+    ≡ fold with_position cs (counted_in (pass_at level len dot) w p) → TookRoom cs ds 1
+took_entry cs ds level len dot w p k long word within room is =
+    subst (λ (es : Counts). TookRoom cs es 1) (sym is) (took_in cs level len dot w p k long word within room)
 
 -- words have no fewer letters than their number
 pub few_words : (words : List Word) → All IsWord words → length words ≤ sum_by letter_count words

@@ -7,6 +7,7 @@ use Rattle.pg_types.specs.declared.marks.Totals.{Totals}
 use Rattle.pg_types.specs.declared.parameters.LevelParams.{LevelParams}
 use Rattle.pg_types.specs.Placement.{Families, taken_count, top}
 use Rattle.pg_translate.specs.Alphabets.{Alphabet}
+use Rattle.pg_types.specs.Inside.counting.Counts.{Counts}
 use Rattle.pg_dict.specs.Word.{Word}
 use Rattle.pg_select.specs.Inside.engine.Meanings.{Meaning, IsLayout, after_begin_pass, with_position}
 use Rattle.pg_select.specs.declared.pass.Pass.{Pass}
@@ -17,7 +18,6 @@ use Rattle.pg_driver.specs.declared.records.PassRecord.{PassRecord}
 use Rattle.pg_driver.specs.Accounts.{totals_by}
 use Rattle.pg_driver.specs.Inside.records.AccountLines.{pass_line}
 use Rattle.pg_driver.specs.Inside.choices.Choosing.{HasChosen, candidate_of, no_choices, with_candidates}
-use Rattle.pg_driver.specs.Inside.counting.Counting.{meaning_after_counting}
 use Rattle.pg_driver.specs.Inside.level.States.{DidPass, made_by, state_of, state_after}
 use Rattle.pg_driver.specs.Inside.records.RunAccounts.{pass_record_layout, line_of}
 use Rattle.pg_driver.specs.Traces.{PassTrace, Source, source_of}
@@ -29,25 +29,21 @@ use Rattle.pg_driver.proofs.Numbers.{zero_plus}
 abbrev pub seen_in : Alphabet → List Word → Pass → Meaning → List CountedPosition
 seen_in t words pass m = counted_positions (minima_of t) words pass m.patterns m.hopeless
 
--- an engine after the walk of a pass
-abbrev pub counted_pass : Alphabet → List Word → Pass → Meaning → Meaning
-counted_pass t words pass m = meaning_after_counting (after_begin_pass m pass.level pass.len pass.dot) (seen_in t words pass m)
-
 -- the pass, and its candidates
 abbrev pub pass_in : Alphabet → List Word → LevelParams → Pass → Meaning → PassTrace
 pass_in t words params pass m = made_by (source_of t words) params m pass
 
-pub counts_are : (t : Alphabet) (words : List Word) (params : LevelParams) (pass : Pass) (m m2 : Meaning) → m2 ≡ counted_pass t words pass m
-    → map candidate_of m2.counts ≡ (pass_in t words params pass m).candidates
-counts_are t words params pass m m2 is = ap (λ (x : Meaning). map candidate_of x.counts) is ∙ sym (with_sums_is (seen_in t words pass m))
+pub counts_are : (t : Alphabet) (words : List Word) (params : LevelParams) (pass : Pass) (m : Meaning) (cs : Counts) → cs ≡ fold with_position [] (seen_in t words pass m)
+    → map candidate_of cs ≡ (pass_in t words params pass m).candidates
+counts_are t words params pass m cs is = ap (λ (xs : Counts). map candidate_of xs) is ∙ sym (with_sums_is (seen_in t words pass m))
 
 -- the state after the pass
-pub pass_state : (t : Alphabet) (words : List Word) (params : LevelParams) (pass : Pass) (m m2 n : Meaning) → m2 ≡ counted_pass t words pass m
-    → HasChosen params (map candidate_of m2.counts) m2 n → state_of n ≡ state_after m.signs m.families (pass_in t words params pass m)
-pass_state t words params pass m m2 n is has =
+pub pass_state : (t : Alphabet) (words : List Word) (params : LevelParams) (pass : Pass) (m m1 n : Meaning) (cs : Counts) → m1 ≡ after_begin_pass m pass.level pass.len pass.dot
+    → cs ≡ fold with_position [] (seen_in t words pass m) → HasChosen params (map candidate_of cs) m1 n → state_of n ≡ state_after m.signs m.families (pass_in t words params pass m)
+pass_state t words params pass m m1 n cs begins is has =
     has.state
-    ∙ ap (λ (x : Meaning). state_with x.signs params x.pass (state_of x) (map candidate_of m2.counts)) is
-    ∙ ap (λ (cs : List Candidate). state_with m.signs params pass (state_of m) cs) (counts_are t words params pass m m2 is)
+    ∙ ap (λ (x : Meaning). state_with x.signs params x.pass (state_of x) (map candidate_of cs)) begins
+    ∙ ap (λ (es : List Candidate). state_with m.signs params pass (state_of m) es) (counts_are t words params pass m cs is)
 
 -- the numbers of a pass as a record
 abbrev pub record_with : Pass → Totals → Choices → Option Layout → PassRecord
@@ -94,29 +90,26 @@ layout_is pass before n m (Some l) is = some_layout pass m.families l is.0
 begun_kept : (params : LevelParams) (cs : List Candidate) (old new : Meaning) → HasChosen params cs old new → new.begun ≡ old.begun
 begun_kept params cs old new has = ap (λ (x : Meaning). x.begun) has.kept
 
--- a pass that an engine counted and chose among
-pub did_pass : (t : Alphabet) (words : List Word) (params : LevelParams) (pass : Pass) (m m2 n : Meaning) (before : Totals) (numbers : Choices) (layout : Option Layout)
-    → m2 ≡ counted_pass t words pass m → before ≡ totals_by (source_of t words) m.patterns → HasChosen params (map candidate_of m2.counts) m2 n → numbers
-    ≡ with_candidates params no_choices (map candidate_of m2.counts) → IsLayout n layout
+-- a pass that was counted and chosen among
+pub did_pass : (t : Alphabet) (words : List Word) (params : LevelParams) (pass : Pass) (m m1 n : Meaning) (cs : Counts) (before : Totals) (numbers : Choices) (layout : Option Layout)
+    → m1 ≡ after_begin_pass m pass.level pass.len pass.dot → cs ≡ fold with_position [] (seen_in t words pass m)
+    → before ≡ totals_by (source_of t words) m.patterns → HasChosen params (map candidate_of cs) m1 n → numbers
+    ≡ with_candidates params no_choices (map candidate_of cs) → IsLayout n layout
     → DidPass (source_of t words) params pass m n (record_with pass before numbers layout)
-did_pass t words params pass m m2 n before numbers layout counted totals has chosen tells = record {
-  state = pass_state t words params pass m m2 n counted has;
+did_pass t words params pass m m1 n cs before numbers layout begins counted totals has chosen tells = record {
+  state = pass_state t words params pass m m1 n cs begins counted has;
   line = line_is (source_of t words) params pass m before numbers layout totals (chosen
-      ∙ ap (λ (cs : List Candidate). with_candidates params no_choices cs) (counts_are t words params pass m m2 counted));
+      ∙ ap (λ (es : List Candidate). with_candidates params no_choices es) (counts_are t words params pass m cs counted));
   layout = layout_is pass before numbers n layout tells;
-  begun = begun_kept params (map candidate_of m2.counts) m2 n has ∙ ap (λ (x : Meaning). x.begun) counted;
+  begun = begun_kept params (map candidate_of cs) m1 n has ∙ ap (λ (x : Meaning). x.begun) begins;
 }
 
--- an engine that counted what a pass counts, and then chose
-pub counted_as : (t : Alphabet) (words : List Word) (pass : Pass) (m m1 m2 : Meaning) → m1 ≡ after_begin_pass m pass.level pass.len pass.dot → m2
-    ≡ meaning_after_counting m1 (counted_positions (minima_of t) words pass m1.patterns m1.hopeless) → m2 ≡ counted_pass t words pass m
-counted_as t words pass m m1 m2 begins counts = counts ∙ ap (λ (x : Meaning). meaning_after_counting x (counted_positions (minima_of t) words pass x.patterns x.hopeless)) begins
+-- what was counted, by what was known before the pass
+pub counted_as : (t : Alphabet) (words : List Word) (pass : Pass) (m m1 : Meaning) (cs : Counts) → m1 ≡ after_begin_pass m pass.level pass.len pass.dot → cs
+    ≡ fold with_position [] (counted_positions (minima_of t) words pass m1.patterns m1.hopeless) → cs ≡ fold with_position [] (seen_in t words pass m)
+counted_as t words pass m m1 cs begins counts = counts ∙ ap (λ (x : Meaning). fold with_position [] (counted_positions (minima_of t) words pass x.patterns x.hopeless)) begins
 
-pub counts_kept : (t : Alphabet) (words : List Word) (params : LevelParams) (pass : Pass) (m m2 n : Meaning) → m2 ≡ counted_pass t words pass m
-    → HasChosen params (map candidate_of m2.counts) m2 n → n.counts ≡ fold with_position [] (seen_in t words pass m)
-counts_kept t words params pass m m2 n counted has = ap (λ (x : Meaning). x.counts) has.kept ∙ ap (λ (x : Meaning). x.counts) counted
-
-pub numbers_are : (t : Alphabet) (words : List Word) (params : LevelParams) (pass : Pass) (m m2 : Meaning) (numbers : Choices) → m2 ≡ counted_pass t words pass m
-    → numbers ≡ with_candidates params no_choices (map candidate_of m2.counts)
+pub numbers_are : (t : Alphabet) (words : List Word) (params : LevelParams) (pass : Pass) (m : Meaning) (cs : Counts) (numbers : Choices) → cs ≡ fold with_position [] (seen_in t words pass m)
+    → numbers ≡ with_candidates params no_choices (map candidate_of cs)
     → numbers ≡ with_candidates params no_choices (pass_in t words params pass m).candidates
-numbers_are t words params pass m m2 numbers counted is = is ∙ ap (λ (cs : List Candidate). with_candidates params no_choices cs) (counts_are t words params pass m m2 counted)
+numbers_are t words params pass m cs numbers counted is = is ∙ ap (λ (es : List Candidate). with_candidates params no_choices es) (counts_are t words params pass m cs counted)

@@ -1,9 +1,12 @@
 //! The choice among the candidates of a pass.
-ghost use Rattle.std.specs.Prelude.{◌≡◌, ◌≤◌, ◌<◌, ◌+◌, ◌∷◌, [], ℕ, List, true, length, map, IfOk, OnOk};
+ghost use Rattle.std.specs.Prelude.{◌≡◌, ◌≤◌, ◌<◌, ◌+◌, ◌∷◌, [], ℕ, List, length, map, IfOk, OnOk};
 ghost use Rattle.pg_types.specs.declared.limits.TheConstants.{FILE_MAX};
 ghost use Rattle.pg_types.specs.Inside.Ranges.{IsLevel};
-ghost use Rattle.pg_types.specs.Inside.counting.Counts.{is_counted};
-ghost use Rattle.pg_types.specs.Inside.counting.NumberedWindows.{AreInOrder, AreNumbered, HasNumber};
+ghost use Rattle.pg_types.specs.Inside.Signs.{SignsWithin};
+ghost use Rattle.pg_types.specs.Inside.counting.NumberedWindows.{AreInOrder, HasNumber};
+ghost use Rattle.pg_select.specs.Inside.engine.EngineCalls.{CanEnter};
+ghost use Rattle.pg_starts.specs.Inside.StartCountings.{AreCounting, counts_in, windows_in};
+ghost use Rattle.pg_driver.specs.Inside.choices.LookAhead.{FitCursors};
 ghost use Rattle.pg_select.specs.Inside.Choices.{choice};
 ghost use Rattle.pg_driver.specs.Inside.level.PassWindows.{AreFates, IsCandidate};
 ghost use Rattle.pg_driver.specs.Inside.counting.Counting.{HasRoom};
@@ -15,7 +18,8 @@ mod look_ahead;
 use crate::choices::look_ahead::look_ahead;
 pub use look_ahead::SeenCandidate;
 use pg_select::{Choice, Engine};
-use pg_types::LevelParams;
+use pg_starts::StartCounts;
+use pg_types::{LevelParams, Sign};
 use std::alloc::AllocError;
 
 /// What became of the candidates of a pass.
@@ -37,25 +41,30 @@ pub struct Choices {
 /// where it is chosen. Only the contract reads `params`.
 fn choose_one<E: Engine>(
     engine: &mut E,
+    signs: &[Sign],
+    counts: &StartCounts,
     params: &LevelParams,
     number: u32,
     seen: &SeenCandidate,
     choices: &mut Choices,
 ) -> Result<(), AllocError>
     requires level { IsLevel params.now }
-    requires window { HasNumber (E.meaning engine.old).windows seen.now.window number }
-    requires counted { is_counted (E.meaning engine.old).counts seen.now.window ≡ true }
-    requires fate { (u : List ℕ) (sums : ℕ × ℕ) → IsCandidate (E.meaning engine.old) number u sums
+    requires counting { AreCounting signs.now counts.now }
+    requires window { HasNumber (windows_in signs.now counts.now) seen.now.window number }
+    requires enter { CanEnter (E.meaning engine.old) seen.now.window }
+    requires fate { (u : List ℕ) (sums : ℕ × ℕ) → IsCandidate signs.now counts.now number u sums
         → seen.now.fate ≡ choice params.now sums.0 sums.1 }
-    requires sums { (u : List ℕ) (sums : ℕ × ℕ) → IsCandidate (E.meaning engine.old) number u sums
+    requires there { (u : List ℕ) × (sums : ℕ × ℕ)
+        × IsCandidate signs.now counts.now number u sums }
+    requires sums { (u : List ℕ) (sums : ℕ × ℕ) → IsCandidate signs.now counts.now number u sums
         → (choices.old.good + sums.0 < sums_limit) × (choices.old.bad + sums.1 < sums_limit) }
     requires few { choices.old.candidates < FILE_MAX }
     requires sound { choices.old.chosen + choices.old.hopeless ≤ choices.old.candidates }
-    ensures ok { (u : List ℕ) (sums : ℕ × ℕ) → IsCandidate (E.meaning engine.old) number u sums
+    ensures ok { (u : List ℕ) (sums : ℕ × ℕ) → IsCandidate signs.now counts.now number u sums
         → OnOk result (HasChosen params.now
         (record { window = u; good = sums.0; bad = sums.1 } ∷ [])
         (E.meaning engine.old) (E.meaning engine.new)) }
-    ensures choices { (u : List ℕ) (sums : ℕ × ℕ) → IsCandidate (E.meaning engine.old) number u sums
+    ensures choices { (u : List ℕ) (sums : ℕ × ℕ) → IsCandidate signs.now counts.now number u sums
         → OnOk result (choices.new ≡ with_candidates params.now choices.old
         (record { window = u; good = sums.0; bad = sums.1 } ∷ [])) }
     ensures sound { OnOk result
@@ -65,7 +74,7 @@ fn choose_one<E: Engine>(
     choices.candidates += 1;
     match seen.fate {
         Choice::Chosen => {
-            let (good, bad) = engine.sums_of(number);
+            let (good, bad) = counts.sums(signs, number).unwrap_or((0, 0));
             engine.choose(&seen.window)?;
             choices.chosen += 1;
             choices.good += good;
@@ -85,22 +94,30 @@ fn choose_one<E: Engine>(
 /// its number. Several at a time are read into `seen`, whose memory stays for later passes.
 pub fn choose_all<E: Engine>(
     engine: &mut E,
+    signs: &[Sign],
+    counts: &StartCounts,
     params: &LevelParams,
     fates: &[Choice],
     order: &[u32],
     seen: &mut Vec<SeenCandidate>,
 ) -> Result<Choices, AllocError>
     requires level { IsLevel params.now }
-    requires room { HasRoom (E.meaning engine.old).counts 0 }
-    requires numbered { AreNumbered (E.meaning engine.old).windows (E.meaning engine.old).counts }
-    requires fates { AreFates params.now (E.meaning engine.old).counts
-        (E.meaning engine.old).windows fates.now }
-    requires order { AreInOrder (E.meaning engine.old).windows
-        (E.meaning engine.old).counts order.now }
-    ensures ok { OnOk result (HasChosen params.now (map candidate_of (E.meaning engine.old).counts)
+    requires counting { AreCounting signs.now counts.now }
+    requires cursors { FitCursors (windows_in signs.now counts.now) }
+    requires enter { (u : List ℕ) (n : ℕ) → HasNumber (windows_in signs.now counts.now) u n
+        → (length u ≡ (E.meaning engine.old).pass.len)
+        × SignsWithin (E.meaning engine.old).signs u }
+    requires room { HasRoom (counts_in signs.now counts.now) 0 }
+    requires fates { AreFates params.now (counts_in signs.now counts.now)
+        (windows_in signs.now counts.now) fates.now }
+    requires order { AreInOrder (windows_in signs.now counts.now)
+        (counts_in signs.now counts.now) order.now }
+    ensures ok { OnOk result (HasChosen params.now
+        (map candidate_of (counts_in signs.now counts.now))
         (E.meaning engine.old) (E.meaning engine.new)) }
     ensures choices { IfOk result (λ choices. choices
-        ≡ with_candidates params.now no_choices (map candidate_of (E.meaning engine.old).counts)) }
+        ≡ with_candidates params.now no_choices
+        (map candidate_of (counts_in signs.now counts.now))) }
     ensures sound { IfOk result
         (λ choices. choices.chosen + choices.hopeless ≤ choices.candidates) }
     ensures few { IfOk result (λ choices. choices.candidates ≤ FILE_MAX) }
@@ -116,8 +133,16 @@ pub fn choose_all<E: Engine>(
     seen.clear();
     let mut from = 0;
     'candidates: for k in 0..order.len() {
-        from = look_ahead(engine, fates, order, k, from, seen)?;
-        choose_one(engine, params, order[k], &seen[k - from], &mut choices)?;
+        from = look_ahead(signs, counts, fates, order, k, from, seen)?;
+        choose_one(
+            engine,
+            signs,
+            counts,
+            params,
+            order[k],
+            &seen[k - from],
+            &mut choices,
+        )?;
     }
     Ok(choices)
 }

@@ -1,10 +1,13 @@
 //! The ways to count the windows of a level.
 ghost use Rattle.std.specs.Prelude.{◌≡◌, ◌≤◌, ◌<◌, ◌+◌, ◌-◌, [], ℕ, length, IfOk, OnOk};
-ghost use Rattle.pg_types.specs.Inside.counting.NumberedWindows.{AreNumbered};
+ghost use Rattle.pg_types.specs.declared.limits.TheConstants.{LENGTH_MAX};
+ghost use Rattle.pg_dict.specs.Inside.Store.{all_signs};
+ghost use Rattle.pg_starts.specs.Inside.Known.{AreKnown};
+ghost use Rattle.pg_starts.specs.Inside.StartCountings.{AreCounting, counts_in, windows_in};
 ghost use Rattle.pg_dict.specs.Inside.SoundWords.{SignsAtMost};
 ghost use Rattle.pg_select.specs.Inside.laws.Steps.{IsBelow};
 ghost use Rattle.pg_driver.specs.declared.pass_windows.TheConstants.{NO_NUMBER};
-ghost use Rattle.pg_driver.specs.Inside.counting.LevelCounting.{AreNumberedIn, AreInWords, CanGoOn, DidCount, GoesOnAfter, HasEnded, IsCounted, IsOverOpen, IsReady, totals_carried};
+ghost use Rattle.pg_driver.specs.Inside.counting.LevelCounting.{AreInWords, AreListed, AreNumbersIn, HasSize, CanGoOn, DidCount, GoesOnAfter, HasEnded, IsCounted, IsOverOpen, IsReady, totals_carried};
 ghost use Rattle.pg_driver.specs.Inside.level.PassWindows.{AreFates};
 ghost use Rattle.pg_driver.specs.Inside.level.States.{HasBegun, IsPass};
 ghost use Rattle.pg_driver.specs.Inside.records.RunAccounts.{known_of};
@@ -89,52 +92,78 @@ impl WayToCount {
         Ok(())
     }
 
-    /// Counts the windows of a pass that has begun, and gives the totals before it. `windows` gets
-    /// the number of the window of each position that is listed, or at which the dot of the pass is
-    /// open.
+    /// Numbers the windows of a length that its passes may count.
+    pub fn number(
+        &self,
+        alloc: Global,
+        dictionary: &Dictionary,
+        len: u8,
+        windows: &mut PassWindows,
+    ) -> Result<(), AllocError>
+        requires len { (1 ≤ len) × (len ≤ LENGTH_MAX) }
+        requires size { HasSize dictionary.now self.now }
+        requires known { AreKnown (all_signs dictionary.now) windows.old.counts.numbers }
+        ensures known { AreKnown (all_signs dictionary.now) windows.new.counts.numbers }
+        ensures numbers { OnOk result
+            (AreNumbersIn dictionary.now len windows.new.counts.numbers self.now) }
+    {
+        let _words = dictionary.len();
+        let signs = dictionary.all_signs();
+        match self {
+            WayToCount::Open(open) => windows.counts.number_open(alloc, signs, &open.dots, len),
+            WayToCount::EachWord(_) => windows.counts.number_all(alloc, signs, len),
+        }
+    }
+
+    /// Counts the windows of a pass that has begun, and gives the totals before it. Its windows
+    /// have numbers. `windows` gets the number of the window of each position that is listed.
     pub fn count<E: Engine>(
         &mut self,
-        engine: &mut E,
+        engine: &E,
         dictionary: &Dictionary,
         table: &Table,
         pass: Pass,
         windows: &mut PassWindows,
     ) -> Result<Totals, AllocError>
-        requires begun { HasBegun pass dictionary.now (E.meaning engine.old) }
+        requires begun { HasBegun pass dictionary.now (E.meaning engine.now) }
         requires ready { IsReady (source_of table.now dictionary.now) pass.level pass.len
-            (known_of (E.meaning engine.old)) self.old }
+            (known_of (E.meaning engine.now)) self.old }
+        requires numbers { AreNumbersIn dictionary.now pass.len windows.old.counts.numbers self.old }
         ensures did { IfOk result (DidCount (source_of table.now dictionary.now) pass
-            (E.meaning engine.old) (E.meaning engine.new)) }
+            (E.meaning engine.now) (counts_in (all_signs dictionary.now) windows.new.counts)) }
         ensures ready { OnOk result (IsReady (source_of table.now dictionary.now)
-            pass.level pass.len (known_of (E.meaning engine.old)) self.new) }
+            pass.level pass.len (known_of (E.meaning engine.now)) self.new) }
         ensures counted { OnOk result (IsCounted self.new) }
+        ensures counting { OnOk result
+            (AreCounting (all_signs dictionary.now) windows.new.counts) }
         ensures numbers { OnOk result
-            (AreNumbered (E.meaning engine.new).windows (E.meaning engine.new).counts
-            → AreNumberedIn pass (E.meaning engine.new).counts dictionary.now
-            (E.meaning engine.new).windows self.new windows.new.numbers.items) }
-        ensures signs { (E.meaning engine.new).signs ≡ (E.meaning engine.old).signs }
+            (AreNumbersIn dictionary.now pass.len windows.new.counts.numbers self.new) }
+        ensures listed { OnOk result
+            (AreListed pass (counts_in (all_signs dictionary.now) windows.new.counts)
+            dictionary.now (windows_in (all_signs dictionary.now) windows.new.counts)
+            self.new windows.new.numbers.items) }
     {
-        windows.forget_numbers();
+        windows.counts.begin(dictionary.all_signs())?;
+        windows.numbers.clear();
         match self {
             WayToCount::Open(open) => {
                 open.dots.reach(pass.dot)?;
-                let numbers = &mut windows.numbers;
-                count_open(engine, dictionary, pass, &open.dots, numbers)?;
+                count_open(dictionary, pass, &open.dots, &mut windows.counts);
                 Ok(open.totals)
             }
             WayToCount::EachWord(level) => {
-                level.count_each_word(engine, dictionary, table, pass, &mut windows.numbers)
+                let numbers = &mut windows.numbers;
+                let counts = &mut windows.counts;
+                level.count_each_word(engine, dictionary, table, pass, counts, numbers)
             }
         }
     }
 
     /// Takes in the choices of a pass: closes dots of open positions, and carries the totals on. A
     /// position whose value is above the level keeps its value, so its weight is left out of what
-    /// was chosen. No window is looked up. It takes no memory. Only the contract reads `engine` and
-    /// `params`.
-    pub fn after_choices<E: Engine>(
+    /// was chosen. It takes no memory. Only the contract reads `params`.
+    pub fn after_choices(
         &mut self,
-        engine: &E,
         dictionary: &Dictionary,
         params: &LevelParams,
         pass: Pass,
@@ -142,30 +171,29 @@ impl WayToCount {
         windows: &PassWindows,
     )
         requires ranges { IsPass pass }
-        requires numbered { AreNumbered (E.meaning engine.now).windows
-            (E.meaning engine.now).counts }
         requires placed { AreInWords dictionary.now self.old }
-        requires fates { AreFates params.now (E.meaning engine.now).counts
-            (E.meaning engine.now).windows
-            windows.now.fates.items }
+        requires counting { AreCounting (all_signs dictionary.now) windows.now.counts }
+        requires numbers { AreNumbersIn dictionary.now pass.len windows.now.counts.numbers self.old }
+        requires fates { AreFates params.now
+            (counts_in (all_signs dictionary.now) windows.now.counts)
+            (windows_in (all_signs dictionary.now) windows.now.counts) windows.now.fates.items }
         requires few { length windows.now.fates.items ≤ NO_NUMBER }
-        requires numbers { AreNumberedIn pass (E.meaning engine.now).counts dictionary.now
-            (E.meaning engine.now).windows self.old windows.now.numbers.items }
+        requires listed { AreListed pass
+            (counts_in (all_signs dictionary.now) windows.now.counts) dictionary.now
+            (windows_in (all_signs dictionary.now) windows.now.counts) self.old
+            windows.now.numbers.items }
         requires totals { CanGoOn params.now pass
-            (E.meaning engine.now).counts dictionary.now choices self.old }
-        ensures { GoesOnAfter params.now pass
-            (E.meaning engine.now).counts dictionary.now choices self.old self.new }
+            (counts_in (all_signs dictionary.now) windows.now.counts) dictionary.now
+            choices self.old }
+        ensures after { GoesOnAfter params.now pass
+            (counts_in (all_signs dictionary.now) windows.now.counts) dictionary.now
+            choices self.old self.new }
+        ensures numbers { AreNumbersIn dictionary.now pass.len windows.now.counts.numbers self.new }
     {
         match self {
             WayToCount::Open(open) => {
-                let signs = dictionary.all_signs();
-                close_dots(
-                    pass.dot,
-                    &windows.fates,
-                    &windows.numbers,
-                    signs.len(),
-                    &mut open.dots,
-                );
+                let fates = &windows.fates;
+                close_dots(dictionary, pass, &windows.counts, fates, &mut open.dots);
                 open.totals = totals_after(open.totals, pass.level, choices.good, choices.bad);
             }
             WayToCount::EachWord(words) => {

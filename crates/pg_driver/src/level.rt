@@ -5,7 +5,9 @@ ghost use Rattle.pg_types.specs.Inside.Ranges.{IsLevel};
 ghost use Rattle.pg_dict.specs.Inside.SoundWords.{SignsAtMost};
 ghost use Rattle.pg_select.specs.Inside.laws.Steps.{IsBelow};
 ghost use Rattle.pg_driver.specs.Accounts.{totals_by};
-ghost use Rattle.pg_driver.specs.Inside.counting.LevelCounting.{HasEnded, IsCounted, IsReady, TellsTotals};
+ghost use Rattle.pg_driver.specs.Inside.counting.LevelCounting.{AreNumbersIn, HasEnded, IsCounted, IsReady, TellsTotals};
+ghost use Rattle.pg_dict.specs.Inside.Store.{all_signs};
+ghost use Rattle.pg_starts.specs.Inside.Known.{AreKnown};
 ghost use Rattle.pg_driver.specs.Inside.level.Levels.{AreRecorded, BeganAll, DidLevel, GoesOn, WillCount, all_made_by, point};
 ghost use Rattle.pg_driver.specs.Inside.records.SoundRecords.{IsSmall, IsSoundPass};
 ghost use Rattle.pg_types.specs.Inside.Limits.{begun_before_pass, length_passes, level_passes};
@@ -47,6 +49,9 @@ fn run_pass<E: Engine>(
     requires ready { IsReady (source_of table.now dictionary.now) pass.level pass.len
         (known_of (E.meaning engine.old))
         counting.old }
+    requires numbers { AreNumbersIn dictionary.now pass.len windows.old.counts.numbers counting.old }
+    ensures numbers { OnOk result
+        (AreNumbersIn dictionary.now pass.len windows.new.counts.numbers counting.new) }
     ensures done { IfOk result
         (DidPass (source_of table.now dictionary.now) params.now pass (E.meaning engine.old)
         (E.meaning engine.new)) }
@@ -59,10 +64,19 @@ fn run_pass<E: Engine>(
 {
     engine.begin_pass(pass.level, pass.len, pass.dot);
     let before = counting.count(engine, dictionary, table, pass, windows)?;
-    windows.decide(engine, params)?;
-    let seen = &mut windows.seen;
-    let choices = choose_all(engine, params, &windows.fates, &windows.order, seen)?;
-    counting.after_choices(engine, dictionary, params, pass, choices, windows);
+    let _words = dictionary.len();
+    let signs = dictionary.all_signs();
+    windows.decide(signs, params)?;
+    let choices = choose_all(
+        engine,
+        signs,
+        &windows.counts,
+        params,
+        &windows.fates,
+        &windows.order,
+        &mut windows.seen,
+    )?;
+    counting.after_choices(dictionary, params, pass, choices, windows);
     Ok(PassRecord {
         level: pass.level,
         len: pass.len,
@@ -98,6 +112,9 @@ fn run_or_skip<E: Engine>(
     requires ready { IsReady (source_of table.now dictionary.now) pass.level pass.len
         (known_of (E.meaning engine.old))
         counting.old }
+    requires numbers { AreNumbersIn dictionary.now pass.len windows.old.counts.numbers counting.old }
+    ensures numbers { OnOk result
+        (AreNumbersIn dictionary.now pass.len windows.new.counts.numbers counting.new) }
     ensures ok { OnOk result (GoesOn (source_of table.now dictionary.now) pass.level pass.len
         (made_by (source_of table.now dictionary.now) params.now (E.meaning engine.old) pass ∷ [])
         (point (E.meaning engine.old) records.old skippable.old)
@@ -125,6 +142,7 @@ fn run_or_skip<E: Engine>(
 
 /// Does the passes of a length, dot by dot, except those that can be skipped.
 fn run_length<E: Engine>(
+    alloc: Global,
     engine: &mut E,
     dictionary: &Dictionary,
     table: &Table,
@@ -147,6 +165,9 @@ fn run_length<E: Engine>(
         (known_of (E.meaning engine.old))
         counting.old }
     requires counts { WillCount skippable.old counting.old }
+    requires known { AreKnown (all_signs dictionary.now) windows.old.counts.numbers }
+    ensures known { OnOk result
+        (AreKnown (all_signs dictionary.now) windows.new.counts.numbers) }
     ensures ok { OnOk result (GoesOn (source_of table.now dictionary.now) number len
         (all_made_by (source_of table.now dictionary.now) params.now (E.meaning engine.old)
         (passes_of_length number len)) (point (E.meaning engine.old) records.old skippable.old)
@@ -161,6 +182,7 @@ fn run_length<E: Engine>(
     ensures counted { OnOk result (IsCounted counting.new) }
     ensures signs { (E.meaning engine.new).signs ≡ (E.meaning engine.old).signs }
 {
+    counting.number(alloc, dictionary, len, windows)?;
     let end = len + 1;
     'dots: for k in 0..end {
         let pass = Pass {
@@ -177,6 +199,7 @@ fn run_length<E: Engine>(
 
 /// Does all passes of a level, length by length, except those that can be skipped.
 fn run_lengths<E: Engine>(
+    alloc: Global,
     engine: &mut E,
     dictionary: &Dictionary,
     table: &Table,
@@ -194,6 +217,9 @@ fn run_lengths<E: Engine>(
     requires signs { SignsAtMost (E.meaning engine.old).signs dictionary.now }
     requires ready { (len : ℕ) → IsReady (source_of table.now dictionary.now) number len
         (known_of (E.meaning engine.old)) counting.old }
+    requires known { AreKnown (all_signs dictionary.now) windows.old.counts.numbers }
+    ensures known { OnOk result
+        (AreKnown (all_signs dictionary.now) windows.new.counts.numbers) }
     ensures state { OnOk result (state_of (E.meaning engine.new)
         ≡ state_at_end (E.meaning engine.old).signs (state_of (E.meaning engine.old))
         (all_made_by (source_of table.now dictionary.now) params.now (E.meaning engine.old)
@@ -217,6 +243,7 @@ fn run_lengths<E: Engine>(
     let end = params.pat_finish + 1;
     'lengths: for len in params.pat_start..end {
         run_length(
+            alloc,
             engine,
             dictionary,
             table,
@@ -236,7 +263,7 @@ fn run_lengths<E: Engine>(
 
 /// Does a level: its passes, and then its end. Gives the totals at its end. `greatest` is the
 /// greatest value of the starting patterns, and `counting` is the way to count at the end of the
-/// level before. What `windows` holds does not matter.
+/// level before.
 pub fn run_level<E: Engine>(
     alloc: Global,
     engine: &mut E,
@@ -259,6 +286,9 @@ pub fn run_level<E: Engine>(
     requires below { greatest < number → IsBelow number (E.meaning engine.old).patterns }
     requires ended { HasEnded (source_of table.now dictionary.now) (number - 1)
         (E.meaning engine.old).patterns counting.old }
+    requires known { AreKnown (all_signs dictionary.now) windows.old.counts.numbers }
+    ensures known { OnOk result
+        (AreKnown (all_signs dictionary.now) windows.new.counts.numbers) }
     ensures done { OnOk result (DidLevel (source_of table.now dictionary.now)
         (level_trace (source_of table.now dictionary.now)
         (E.meaning engine.old).patterns (number, params.now))
@@ -277,7 +307,7 @@ pub fn run_level<E: Engine>(
 {
     counting.begin_level(alloc, engine, dictionary, table, number, greatest)?;
     run_lengths(
-        engine, dictionary, table, params, number, counting, windows, records,
+        alloc, engine, dictionary, table, params, number, counting, windows, records,
     )?;
     engine.end_level()?;
     let after = counting.totals();

@@ -52,7 +52,8 @@ fn run_levels<E: Engine>(
     let first = params.start();
     let count = params.count();
     let mut counting = WayToCount::new(alloc);
-    let mut windows = PassWindows::new(alloc);
+    let _words = dictionary.len();
+    let mut windows = PassWindows::new(alloc, dictionary.all_signs())?;
     let mut last = None;
     'levels: for i in 0..count {
         let number = first + i as u8;

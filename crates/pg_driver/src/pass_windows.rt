@@ -1,27 +1,22 @@
-//! The windows of a pass by their numbers: what becomes of each, and which positions it stands at.
-ghost use Rattle.std.specs.Prelude.{◌≡◌, ◌<◌, ◌≤◌, ◌++◌, ℕ, List, length, Some, OnOk};
-ghost use Rattle.pg_types.specs.Inside.counting.Counts.{counted_sums};
-ghost use Rattle.pg_types.specs.Inside.counting.NumberedWindows.{HasNumber};
+//! The windows of a pass: their counts, by the numbers of their starts, and what becomes of each.
+ghost use Rattle.std.specs.Prelude.{◌≡◌, ◌≤◌, ◌<◌, ◌++◌, ℕ, List, [], length, OnOk, IfOk};
+ghost use Rattle.std.specs.Option.{IfSome};
+ghost use Rattle.pg_types.specs.Inside.Limits.{sums_limit};
 ghost use Rattle.pg_types.specs.Inside.Ranges.{IsLevel};
-ghost use Rattle.pg_select.specs.Inside.Choices.{choice};
+ghost use Rattle.pg_starts.specs.Inside.CountsByNumber.{counted_from};
+ghost use Rattle.pg_starts.specs.Inside.StartCountings.{AreCounting, counts_in, windows_in};
 ghost use Rattle.pg_driver.specs.declared.pass_windows.TheConstants.{NO_NUMBER};
 ghost use Rattle.pg_driver.specs.Inside.counting.Counting.{HasRoom};
-ghost use Rattle.pg_driver.specs.Inside.level.PassWindows.{AreFates};
+ghost use Rattle.pg_driver.specs.Inside.level.PassWindows.{AreFates, fate_of_sums};
 
 use crate::choices::SeenCandidate;
-use pg_select::{Choice, Engine, decide};
-use pg_types::{LevelParams, NUMBERS_END};
+use pg_select::{Choice, decide};
+use pg_starts::StartCounts;
+use pg_types::{LevelParams, NUMBERS_END, Sign};
 use std::alloc::{AllocError, Global};
 
 /// This stands for the number of a window at a position that was not counted.
 pub const NO_NUMBER: u32 = NUMBERS_END;
-
-/// Memory for so many numbers is never given back: a smaller list would only grow anew.
-const NUMBERS_AT_LEAST: usize = 1 << 15;
-
-/// A list of numbers that takes less than one of this many parts of its memory gives some of it
-/// back.
-const USED_PART: usize = 4;
 
 /// A position of a word.
 #[derive(Clone, Copy)]
@@ -32,14 +27,14 @@ pub struct WordPosition {
     pub at: u8,
 }
 
-/// What a pass keeps of its windows. The memory serves later passes. Where a pass used little of
-/// that of the numbers, some of it may be given back.
+/// What a pass keeps of its windows. The memory serves later passes.
 #[derive(Drop)]
 pub struct PassWindows {
-    /// The number of the window of each position that is listed, or at which the dot of the pass is
-    /// open, in the order of these positions.
+    /// The windows that are counted, by the numbers of their starts.
+    pub counts: StartCounts,
+    /// The number of the window of each position that is listed, in the order of these positions.
     pub numbers: Vec<u32>,
-    /// The numbers in the order of signs.
+    /// The numbers of the counted windows, in the order of signs.
     pub order: Vec<u32>,
     /// What becomes of each window, by its number.
     pub fates: Vec<Choice>,
@@ -48,34 +43,29 @@ pub struct PassWindows {
 }
 
 impl PassWindows {
-    ghost use Rattle.std.specs.Prelude.{◌≡◌, ◌≤◌, [], length, OnOk};
-    ghost use Rattle.pg_types.specs.Inside.counting.NumberedWindows.{AreInOrder, AreNumbered};
+    ghost use Rattle.std.specs.Prelude.{◌≡◌, ◌≤◌, ◌<◌, [], length, OnOk, IfOk};
+    ghost use Rattle.pg_types.specs.Inside.Limits.{positions_limit};
+    ghost use Rattle.pg_types.specs.Inside.counting.NumberedWindows.{AreInOrder};
     ghost use Rattle.pg_types.specs.Inside.Ranges.{IsLevel};
+    ghost use Rattle.pg_starts.specs.Inside.Known.{AreKnown};
+    ghost use Rattle.pg_starts.specs.Inside.StartCountings.{AreCounting, counts_in, windows_in};
     ghost use Rattle.pg_driver.specs.declared.pass_windows.TheConstants.{NO_NUMBER};
     ghost use Rattle.pg_driver.specs.Inside.counting.Counting.{HasRoom};
     ghost use Rattle.pg_driver.specs.Inside.level.PassWindows.{AreFates};
 
-    /// No window. It takes no memory.
-    pub fn new(alloc: Global) -> PassWindows {
-        PassWindows {
+    /// No window of these signs has a number.
+    pub fn new(alloc: Global, signs: &[Sign]) -> Result<PassWindows, AllocError>
+        requires { length signs.now < positions_limit }
+        ensures { IfOk result (λ w. AreKnown signs.now w.counts.numbers) }
+    {
+        let counts = StartCounts::new(alloc, signs)?;
+        Ok(PassWindows {
+            counts,
             numbers: Vec::new(alloc),
             order: Vec::new(alloc),
             fates: Vec::new(alloc),
             seen: Vec::new(alloc),
-        }
-    }
-
-    /// Forgets the numbers of the pass before. If they took less than a quarter of their memory,
-    /// the list keeps twice what they took, at least [`NUMBERS_AT_LEAST`], and gives the rest back.
-    /// The first passes of a level have far more positions than the last ones.
-    pub fn forget_numbers(&mut self)
-        ensures { self.new.numbers.items ≡ [] }
-    {
-        let used = self.numbers.len();
-        self.numbers.clear();
-        if used < self.numbers.capacity() / USED_PART {
-            self.numbers.shrink_to(NUMBERS_AT_LEAST.max(2 * used));
-        }
+        })
     }
 
     /// Forgets the order and the decisions of the pass before.
@@ -83,64 +73,74 @@ impl PassWindows {
         ensures order { self.new.order.items ≡ [] }
         ensures fates { self.new.fates.items ≡ [] }
         ensures numbers { self.new.numbers.items ≡ self.old.numbers.items }
+        ensures counts { self.new.counts ≡ self.old.counts }
     {
         self.order.clear();
         self.fates.clear();
     }
 
     /// Puts the windows that were counted in order, and decides once what becomes of each.
-    pub fn decide<E: Engine>(&mut self, engine: &E, params: &LevelParams) -> Result<(), AllocError>
+    pub fn decide(&mut self, signs: &[Sign], params: &LevelParams) -> Result<(), AllocError>
         requires level { IsLevel params.now }
-        requires room { HasRoom (E.meaning engine.now).counts 0 }
-        requires numbered { AreNumbered (E.meaning engine.now).windows
-            (E.meaning engine.now).counts }
-        ensures order { OnOk result
-            (AreInOrder (E.meaning engine.now).windows (E.meaning engine.now).counts
-            self.new.order.items) }
-        ensures fates { OnOk result
-            (AreFates params.now (E.meaning engine.now).counts (E.meaning engine.now).windows
-            self.new.fates.items) }
+        requires counting { AreCounting signs.now self.old.counts }
+        requires few { length signs.now ≤ NO_NUMBER }
+        requires room { HasRoom (counts_in signs.now self.old.counts) 0 }
+        ensures order { OnOk result (AreInOrder (windows_in signs.now self.old.counts)
+            (counts_in signs.now self.old.counts) self.new.order.items) }
+        ensures fates { OnOk result (AreFates params.now (counts_in signs.now self.old.counts)
+            (windows_in signs.now self.old.counts) self.new.fates.items) }
         ensures few { OnOk result (length self.new.fates.items ≤ NO_NUMBER) }
         ensures numbers { self.new.numbers.items ≡ self.old.numbers.items }
+        ensures counts { self.new.counts ≡ self.old.counts }
     {
         self.forget();
-        engine.order(&mut self.order)?;
-        decide_all(engine, params, self.order.len(), &mut self.fates)?;
-        Ok(())
+        decide_all(
+            signs,
+            params,
+            &self.counts,
+            &mut self.order,
+            &mut self.fates,
+        )
     }
 }
 
-/// Appends what becomes of each window, by number.
-fn decide_all<E: Engine>(
-    engine: &E,
+/// Appends what becomes of each window, by number, and the numbers of those that were counted.
+fn decide_all(
+    signs: &[Sign],
     params: &LevelParams,
-    windows: usize,
+    counts: &StartCounts,
+    order: &mut Vec<u32>,
     fates: &mut Vec<Choice>,
 ) -> Result<(), AllocError>
     requires level { IsLevel params.now }
-    requires room { HasRoom (E.meaning engine.now).counts 0 }
-    requires windows { windows ≡ length (E.meaning engine.now).windows }
-    requires few { windows ≤ NO_NUMBER }
-    ensures { OnOk result ((more : List Choice)
-        × (fates.new.items ≡ fates.old.items ++ more)
-        × AreFates params.now (E.meaning engine.now).counts (E.meaning engine.now).windows more) }
+    requires counting { AreCounting signs.now counts.now }
+    requires few { length signs.now ≤ NO_NUMBER }
+    requires room { HasRoom (counts_in signs.now counts.now) 0 }
+    requires no_order { order.old.items ≡ [] }
+    requires no_fates { fates.old.items ≡ [] }
+    ensures order { OnOk result
+        (order.new.items ≡ counted_from 0 counts.now.tallies.sums.items) }
+    ensures fates { OnOk result (AreFates params.now (counts_in signs.now counts.now)
+        (windows_in signs.now counts.now) fates.new.items) }
 {
-    'numbers: for number in 0..windows {
-        let fate = decide_one(engine, params, number as u32);
-        fates.push(fate)?;
+    'numbers: for number in 0..counts.count() {
+        let sums = counts.sums(signs, number as u32);
+        if sums.is_some() {
+            order.push(number as u32)?;
+        }
+        fates.push(fate_of(params, sums))?;
     }
     Ok(())
 }
 
-/// Decides what becomes of a window.
-fn decide_one<E: Engine>(engine: &E, params: &LevelParams, number: u32) -> Choice
+/// What becomes of a window with these sums. It is left where it was not counted.
+fn fate_of(params: &LevelParams, sums: Option<(u64, u64)>) -> Choice
     requires level { IsLevel params.now }
-    requires room { HasRoom (E.meaning engine.now).counts 0 }
-    requires number { number < length (E.meaning engine.now).windows }
-    ensures { (u : List ℕ) (sums : ℕ × ℕ) → HasNumber (E.meaning engine.now).windows u number →
-        counted_sums (E.meaning engine.now).counts u ≡ Some sums
-        → result ≡ choice params.now sums.0 sums.1 }
+    requires small { IfSome sums (λ s. (s.0 < sums_limit) × (s.1 < sums_limit)) }
+    ensures { result ≡ fate_of_sums params.now sums }
 {
-    let (good, bad) = engine.sums_of(number);
-    decide(good, bad, params)
+    match sums {
+        Some((good, bad)) => decide(good, bad, params),
+        None => Choice::Left,
+    }
 }

@@ -6,9 +6,9 @@ mod one_name;
 mod rest;
 mod slots;
 
-use crate::arguments::forms::{Behind, COMMANDS, Command, command_of};
+use crate::arguments::forms::{Behind, COMMANDS, Command, command_of, is_option};
 use crate::arguments::mistake::{Mistake, about_arguments};
-use crate::arguments::one_name::pair_mistake;
+use crate::arguments::one_name::{name_at, pair_mistake};
 use crate::arguments::rest::rest_mistake;
 use crate::arguments::slots::slot_mistake;
 use pg_types::SETS_MAX;
@@ -55,20 +55,32 @@ fn mistake_of<'a>(command: &Command, arguments: &'a [String]) -> Option<Mistake<
     }
 }
 
-/// Appends the form of a command.
-fn push_form(text: &mut Text, command: &Command) -> Result<(), AllocError> {
-    text.line("    patgen $0", &[Say(command.form)])
+/// Appends the form of a command of the program with this name.
+fn push_form(text: &mut Text, program: &str, command: &Command) -> Result<(), AllocError> {
+    text.line("    $0 $1", &[Name(program), Say(command.form)])
 }
 
-/// Appends that an argument is no command, and the forms of all commands.
+/// What is said of a first argument that is no command; `$0` is the argument.
+fn no_command_sentence(argument: Option<&str>) -> &'static str {
+    match argument {
+        None => "a command is missing; the commands are",
+        Some(option) if is_option(option) => {
+            "$0 is an option, and the command comes first; the commands are"
+        }
+        Some(_) => "$0 is no command; the commands are",
+    }
+}
+
+/// Appends that the first argument is no command, and the forms of all commands.
 fn push_no_command(
     text: &mut Text,
-    sentence: &'static str,
-    argument: &str,
+    program: &str,
+    argument: Option<&str>,
 ) -> Result<(), AllocError> {
-    text.line(sentence, &[Name(argument)])?;
+    let sentence = no_command_sentence(argument);
+    text.line(sentence, &[Name(argument.unwrap_or(""))])?;
     for command in COMMANDS {
-        push_form(text, command)?;
+        push_form(text, program, command)?;
     }
     Ok(())
 }
@@ -95,22 +107,42 @@ fn push_mistake(
 /// Appends which of the arguments that follow a command is wrong, and what is due there.
 fn push_command(
     text: &mut Text,
+    program: &str,
     command: &Command,
     arguments: &[String],
 ) -> Result<(), AllocError> {
     if let Some(mistake) = mistake_of(command, arguments) {
         push_mistake(text, command, &mistake)?;
     }
-    push_form(text, command)
+    push_form(text, program, command)
 }
 
 /// Appends which argument is wrong, and what is due there.
-pub(crate) fn push_arguments(text: &mut Text, arguments: &[String]) -> Result<(), AllocError> {
+pub(crate) fn push_arguments(
+    text: &mut Text,
+    program: &str,
+    arguments: &[String],
+) -> Result<(), AllocError> {
     let Some((first, rest)) = arguments.split_first() else {
-        return push_no_command(text, "a command is missing; the commands are", "");
+        return push_no_command(text, program, None);
     };
     match command_of(first.as_str()) {
-        Some(command) => push_command(text, command, rest),
-        None => push_no_command(text, "$0 is no command; the commands are", first.as_str()),
+        Some(command) => push_command(text, program, command, rest),
+        None => push_no_command(text, program, Some(first.as_str())),
+    }
+}
+
+/// Whether the argument with this index names a file that the call writes. Of arguments that are no
+/// command none does.
+pub fn is_output(arguments: &[String], index: usize) -> bool {
+    let (Some((first, rest)), Some(behind)) = (arguments.split_first(), index.checked_sub(1)) else {
+        return false;
+    };
+    match command_of(first.as_str()) {
+        Some(command) => {
+            matches!(name_at(command, rest, behind), Some((_, true)))
+                && mistake_of(command, rest).is_none()
+        }
+        None => false,
     }
 }

@@ -4,7 +4,7 @@ ghost use Rattle.pg_visible.specs.Inside.Texts.{IsVisibleText};
 
 use crate::arguments::push_arguments;
 use crate::false_lines::push_false_line;
-use crate::faults::push_fault;
+use crate::faults::{push_fault, push_output};
 use crate::notes::{push_behind, push_low_start, push_no_part, push_no_word};
 use crate::refused::push_refused;
 use crate::wrong::Wrong;
@@ -17,7 +17,8 @@ pub const MEMORY: &[u8] = b"there was not enough memory; no file was written\n";
 /// Appends an explanation.
 fn push(text: &mut Text, wrong: &Wrong<'_>) -> Result<(), AllocError> {
     match wrong {
-        Wrong::Arguments(arguments) => push_arguments(text, arguments),
+        Wrong::Arguments { program, arguments } => push_arguments(text, program, arguments),
+        Wrong::Output { name, obstacle } => push_output(text, name, obstacle),
         Wrong::Refused(refused) => push_refused(text, refused),
         Wrong::Fault(fault) => push_fault(text, fault),
         Wrong::False(line) => push_false_line(text, line),

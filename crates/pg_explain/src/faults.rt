@@ -37,8 +37,26 @@ pub(crate) fn push_fault(text: &mut Text, fault: &Fault<'_>) -> Result<(), Alloc
         Deed::Printing => "standard output could not be written$1$2",
     };
     text.line(sentence, &[Name(fault.name), Say(between), Name(reason)])?;
+    if let (Deed::Reading, "-") = (fault.deed, fault.name) {
+        text.line("- is the name of a file: standard input is /dev/stdin", &[])?;
+    }
     match &fault.before {
         Some(before) => push_before(text, fault.name, before),
         None => Ok(()),
     }
+}
+
+/// Appends what is in the way of a file that is to be written, where something is.
+pub(crate) fn push_output(text: &mut Text, name: &str, obstacle: &str) -> Result<(), AllocError> {
+    if !obstacle.is_empty() {
+        let parts = [Name(name), Name(reason_of(obstacle))];
+        text.line("writing $0 will fail: $1", &parts)?;
+    }
+    if name == "-" {
+        text.line(
+            "- is the name of a file: standard output is /dev/stdout",
+            &[],
+        )?;
+    }
+    Ok(())
 }

@@ -15,5 +15,6 @@ mod notes;
 mod refused;
 mod wrong;
 
+pub use arguments::is_output;
 pub use explanation::{MEMORY, explain};
 pub use wrong::{Before, ComparedLine, Deed, Fault, Letters, RefusalCase, Wrong};

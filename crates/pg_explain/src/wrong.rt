@@ -6,8 +6,20 @@ use pg_types::Refusal;
 /// What went wrong, or what is said of a call that went well.
 #[derive(Clone, Copy)]
 pub enum Wrong<'a> {
-    /// The arguments behind the program's name are no command.
-    Arguments(&'a [String]),
+    /// The arguments are no command.
+    Arguments {
+        /// The name by which the program was called.
+        program: &'a str,
+        /// The arguments behind it.
+        arguments: &'a [String],
+    },
+    /// A file that the call is to write. If something is in the way, that is said.
+    Output {
+        /// Its name as it was given.
+        name: &'a str,
+        /// Why writing it will fail; empty where nothing is seen to be in the way.
+        obstacle: &'a str,
+    },
     /// A file is refused.
     Refused(RefusalCase<'a>),
     /// A file could not be read or written, or a line could not be printed.

@@ -1,11 +1,11 @@
 -- The status of a program.
-use Rattle.std.specs.Prelude.{◌≡◌, ℕ, List, String}
+use Rattle.std.specs.Prelude.{◌≡◌, ℕ, List, String, map, string_bytes, ◌⊎◌}
 use Rattle.std.specs.declared.alloc.Global.{Global}
-use Rattle.pg_words.specs.Commands.{request_of_call}
-use Rattle.pg_steps.specs.Moments.{Moment}
-use Rattle.pg_steps.specs.Statuses.{code_of}
-use Rattle.pg_top.specs.WholeCalls.{IsRun}
-use Rattle.pg_steps.specs.declared.answers.Status.{Status}
+use Rattle.pg_plans.specs.Plans.{Moment}
+use Rattle.pg_plans.specs.Statuses.{code_of}
+use Rattle.pg_plans.specs.declared.answers.Status.{Status}
+use Rattle.pg_top.specs.Commands.{plan_of, IsRun, CallsNoFile}
+use Rattle.pg_top.specs.Promises.{IsPromised}
 use Rattle.pg_main.specs.ProgramArguments.{code_of_none}
 use Rattle.pg_main.specs.declared.NoArguments.{NoArguments}
 
@@ -14,7 +14,9 @@ pub record IsCodeOfRun {F : Type 0} (arguments : List (String Global)) (code : �
     (before after : F) (old new : Moment) : Type 0 where
   pub answer : Status
   pub code_of_it : code ≡ code_of answer
-  pub run : IsRun (request_of_call arguments) answer before after old new
+  pub run : IsRun (map string_bytes arguments) answer old new
+  pub uncalled : CallsNoFile (plan_of (map string_bytes arguments)) → (after ≡ before)
+  pub promised : IsPromised arguments answer old.0 new.0
 
 -- there were no arguments: the status tells why, and neither the files nor the sink were touched
 pub record IsCodeOfNone {F O : Type 0} (reason : NoArguments) (code : ℕ)
@@ -22,3 +24,10 @@ pub record IsCodeOfNone {F O : Type 0} (reason : NoArguments) (code : ℕ)
   pub code_of_it : code ≡ code_of_none reason
   pub files : after ≡ before
   pub out : out_after ≡ out_before
+
+-- some arguments are there for which the status is that of a call that followed their plan, or
+-- there were none and the status tells why
+abbrev pub IsCodeOfSome : ℕ → Type 0
+IsCodeOfSome code = ((arguments : List (List ℕ)) × (answer : Status) × (old : Moment)
+    × (new : Moment) × (code ≡ code_of answer) × IsRun arguments answer old new)
+    ⊎ ((reason : NoArguments) × (code ≡ code_of_none reason))

@@ -5,15 +5,15 @@
 ghost use Rattle.std.specs.Prelude.{◌≡◌, ◌≤◌, ◌⊎◌, IfOk, IfErr, MatchResult};
 ghost use Rattle.std.specs.Process.{exit_status};
 ghost use Rattle.pg_main.specs.ProgramArguments.{arguments_in, IsReasonOf};
-ghost use Rattle.pg_main.specs.Statuses.{IsCodeOfRun, IsCodeOfNone};
+ghost use Rattle.pg_main.specs.Statuses.{IsCodeOfRun, IsCodeOfNone, IsCodeOfSome};
 
 mod listen;
 mod named;
 
 use crate::named::SystemNames;
 pub use listen::Listen;
-use pg_messages::{Messages, Reasons};
-use pg_outside::{Files, HostFiles, HostSink, HostSystem, Sink};
+use pg_messages::{Messages, Names, Reasons};
+use pg_outside::{Files, HostFiles, HostSink, HostSystem, Sink, WriteError};
 use pg_top::{exit_code, run_watched};
 use pg_watch::is_shown;
 use std::alloc::Global;
@@ -144,6 +144,37 @@ fn reason_text(alloc: Global, reason: Option<io::Error>) -> String {
     }
 }
 
+/// Why a file could not be read or written: the system's reason, or else that of the write. It is
+/// empty where another line says it: that the file was read or written before.
+fn files_reason<R: rt::Files + Drop>(alloc: Global, files: &HostFiles<R>) -> String {
+    match files.reason() {
+        None | Some(WriteError::Failed | WriteError::Kept) => {
+            reason_text(alloc, files.system().reason())
+        }
+        Some(error) => format!(in alloc; "{error}").unwrap_or(String::new(alloc)),
+    }
+}
+
+/// The name at the end of a path; it is `patgen` where there is none, or where it is no UTF-8.
+fn name_at_end(alloc: Global, path: &[u8]) -> String {
+    let called = str::from_utf8(path).unwrap_or("");
+    let name = match called.rsplit('/').next() {
+        Some(name) if !name.is_empty() => name,
+        _ => "patgen",
+    };
+    String::from_str(alloc, name).unwrap_or(String::new(alloc))
+}
+
+/// The name by which the program was called, without its folders. It is `patgen` where the system
+/// gives none, or one of more than 1,024 bytes.
+fn program_name<R: rt::Env>(alloc: Global, rt: &R) -> String {
+    let mut room = [0; 1024];
+    match rt.arg(0, &mut room) {
+        Ok(len) => name_at_end(alloc, room.get(..len).unwrap_or(&[])),
+        Err(_) => name_at_end(alloc, b""),
+    }
+}
+
 /// Whether the line of progress is shown on `err`, as the variable `PATGEN_PROGRESS` has it.
 fn shows_progress<R: rt::Env + AllocGlobal, E: IsTerminal>(rt: &R, err: &E) -> bool {
     let choice = env::var(rt, "PATGEN_PROGRESS").ok();
@@ -152,20 +183,19 @@ fn shows_progress<R: rt::Env + AllocGlobal, E: IsTerminal>(rt: &R, err: &E) -> b
 
 /// Puts what explains a call that ended at a file or at lines that could not be put, with the
 /// reasons that the system gave.
-fn put_fault<R: rt::Files + AllocGlobal, C: Clock, E: Write + Drop>(
-    rt: &R,
-    of_files: Option<io::Error>,
+fn put_fault<R: rt::Files + Drop, C: Clock, N: Names + Drop, E: Write + Drop>(
+    alloc: Global,
+    files: &HostFiles<R>,
     of_puts: Option<io::Error>,
-    messages: &Messages<'_, C, E>,
+    messages: &Messages<'_, C, N, E>,
 ) {
-    let alloc = rt.alloc();
-    let of_files = reason_text(alloc, of_files);
+    let of_files = files_reason(alloc, files);
     let of_puts = reason_text(alloc, of_puts);
     let reasons = Reasons {
         files: &of_files,
         puts: &of_puts,
     };
-    messages.put_fault(&reasons, &SystemNames::new(rt));
+    messages.put_fault(&reasons);
 }
 
 /// Does what the arguments of the program ask for, over the files of the system and a writer, which
@@ -180,14 +210,16 @@ pub fn run_arguments<
     W: Write + Drop,
     E: Write + IsTerminal + Drop,
 >(rt: &R, out: W, err: E) -> ExitCode
-    ensures { exit_status result ≤ 6 }
+    ensures code { IsCodeOfSome (exit_status result) }
+    ensures most { exit_status result ≤ 6 }
 {
     let alloc = rt.alloc();
     let is_shown = shows_progress(rt, &err);
     let mut files = HostFiles::new(alloc, HostSystem::new(rt));
     let mut sink = HostSink::new(out);
-    let messages = Messages::new(alloc, rt, err, is_shown);
+    let program = program_name(alloc, rt);
+    let messages = Messages::new(alloc, program, SystemNames::new(rt), rt, err, is_shown);
     let code = exit_of(alloc, env::args(rt), &mut files, &mut sink, &messages);
-    put_fault(rt, files.system().reason(), sink.reason(), &messages);
+    put_fault(alloc, &files, sink.reason(), &messages);
     code
 }

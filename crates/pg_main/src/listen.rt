@@ -1,6 +1,6 @@
 //! What the observer of a program is told beside the steps of a call.
 use crate::NoArguments;
-use pg_messages::Messages;
+use pg_messages::{Messages, Names};
 use pg_top::Status;
 use pg_watch::Watch;
 use std::io::Write;
@@ -20,10 +20,9 @@ pub trait Listen: Watch {
 }
 
 /// What stands on standard error where the system did not give the arguments.
-const UNREADABLE: &[u8] =
-    b"patgen: the system did not give the arguments, or one of them is no UTF-8\n";
+const UNREADABLE: &[u8] = b"the system did not give the arguments, or one of them is no UTF-8\n";
 
-impl<'a, C: Clock, E: Write + Drop> Listen for Messages<'a, C, E> {
+impl<'a, C: Clock, N: Names + Drop, E: Write + Drop> Listen for Messages<'a, C, N, E> {
     fn begins(&self, arguments: &[String]) {
         self.take_arguments(arguments);
     }

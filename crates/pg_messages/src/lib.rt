@@ -3,4 +3,4 @@
 
 mod messages;
 
-pub use messages::{Messages, Reasons, SameFile};
+pub use messages::{Messages, Names, Reasons};

@@ -1,7 +1,9 @@
 //! What the observer keeps and shows.
 use pg_audit::FalseLine;
 use pg_dict::Dictionary;
-use pg_explain::{Before, ComparedLine, Deed, Fault, Letters, MEMORY, RefusalCase, Wrong, explain};
+use pg_explain::{
+    Before, ComparedLine, Deed, Fault, Letters, MEMORY, RefusalCase, Wrong, explain, is_output,
+};
 use pg_patterns::PatternSet;
 use pg_translate::Table;
 use pg_types::{Params, next_line};
@@ -25,9 +27,12 @@ struct Call {
 /// An observer that shows where a call is, and keeps what explains its answer. Where memory is
 /// short, less is kept.
 #[derive(Drop)]
-pub struct Messages<'a, C, E: Drop> {
+pub struct Messages<'a, C, N: Drop, E: Drop> {
     alloc: Global,
     screen: Screen<'a, C, E>,
+    names: N,
+    /// The name by which the program was called.
+    program: String,
     /// The first argument.
     command: RefCell<String>,
     /// Which run of a sweep goes on.
@@ -78,12 +83,22 @@ fn shown_name(alloc: Global, name: &str) -> Vec<u8> {
     }
 }
 
-impl<'a, C: Clock, E: Write + Drop> Messages<'a, C, E> {
-    /// An observer on standard error. `is_shown` says whether it shows where a call is.
-    pub fn new(alloc: Global, clock: &'a C, err: E, is_shown: bool) -> Messages<'a, C, E> {
+impl<'a, C: Clock, N: Names + Drop, E: Write + Drop> Messages<'a, C, N, E> {
+    /// An observer of a call of the program with this name, on standard error. `is_shown` says
+    /// whether it shows where the call is.
+    pub fn new(
+        alloc: Global,
+        program: String,
+        names: N,
+        clock: &'a C,
+        err: E,
+        is_shown: bool,
+    ) -> Messages<'a, C, N, E> {
         Messages {
             alloc,
             screen: Screen::new(clock, err, is_shown),
+            names,
+            program,
             command: RefCell::new(String::new(alloc)),
             sweep_run: Cell::new(None),
             calls: RefCell::new(Vec::new(alloc)),
@@ -145,13 +160,26 @@ impl<'a, C: Clock, E: Write + Drop> Messages<'a, C, E> {
         }
     }
 
-    /// Keeps the first argument, with which the line of progress begins.
+    /// Keeps the first argument, with which the line of progress begins. Then it says on standard
+    /// error of each file that is to be written what is seen to be in the way.
     pub fn take_arguments(&self, arguments: &[String]) {
         if let Some(first) = arguments.first() {
             if let Ok(command) = String::from_str(self.alloc, first) {
                 let _ = self.command.try_replace(command);
             }
         }
+        for (index, argument) in arguments.iter().enumerate() {
+            if is_output(arguments, index) {
+                self.put_output(argument.as_str());
+            }
+        }
+    }
+
+    /// Puts what is seen to be in the way of a file that is to be written.
+    fn put_output(&self, name: &str) {
+        let obstacle = self.names.obstacle(self.alloc, name);
+        let obstacle = obstacle.as_deref().unwrap_or("");
+        self.put_wrong(&Wrong::Output { name, obstacle });
     }
 
     /// Puts a text on standard error.
@@ -169,7 +197,8 @@ impl<'a, C: Clock, E: Write + Drop> Messages<'a, C, E> {
 
     /// Puts on standard error what is wrong with these arguments.
     pub fn put_arguments(&self, arguments: &[String]) {
-        self.put_wrong(&Wrong::Arguments(arguments));
+        let program = self.program.as_str();
+        self.put_wrong(&Wrong::Arguments { program, arguments });
     }
 
     /// Puts on standard error why a file is refused, or a given one is not the wanted one.
@@ -199,12 +228,12 @@ impl<'a, C: Clock, E: Write + Drop> Messages<'a, C, E> {
     /// If the answer was a fault, puts on standard error why a file could not be read or written,
     /// or a line could not be put. It gives the reason of the system, and says what was done before
     /// with the same file.
-    pub fn put_fault<S: SameFile>(&self, reasons: &Reasons<'_>, same: &S) {
+    pub fn put_fault(&self, reasons: &Reasons<'_>) {
         if !self.fault.get() {
             return;
         }
         if let Ok(calls) = self.calls.try_borrow() {
-            let fault = fault_of(&calls, self.failed.get(), reasons, same);
+            let fault = fault_of(&calls, self.failed.get(), reasons, &self.names);
             self.put_wrong(&Wrong::Fault(fault));
         }
     }
@@ -221,18 +250,22 @@ pub struct Reasons<'a> {
 }
 
 /// What knows the files behind names.
-pub trait SameFile {
+pub trait Names {
     /// Whether the two names are of one file.
     fn is_same(&self, one: &str, other: &str) -> bool;
+
+    /// Why writing the file of this name will fail; none where nothing is seen to be in the way, and
+    /// where memory is short. Nothing is opened and nothing made.
+    fn obstacle(&self, alloc: Global, name: &str) -> Option<String>;
 }
 
 /// The fault of the last of these calls, if it failed; else that of a put. A write may have failed
 /// since its file was read or written before.
-fn fault_of<'b, S: SameFile>(
+fn fault_of<'b, N: Names>(
     calls: &'b [Call],
     failed: bool,
     reasons: &Reasons<'b>,
-    same: &S,
+    names: &N,
 ) -> Fault<'b> {
     match calls.split_last() {
         Some((last, earlier)) if failed => Fault {
@@ -240,7 +273,7 @@ fn fault_of<'b, S: SameFile>(
             name: &last.name,
             reason: reasons.files,
             before: match last.deed {
-                Deed::Writing => before_of(earlier, last, same),
+                Deed::Writing => before_of(earlier, last, names),
                 Deed::Reading | Deed::Printing => None,
             },
         },
@@ -254,9 +287,9 @@ fn fault_of<'b, S: SameFile>(
 }
 
 /// The first of the earlier calls on the file of the last one.
-fn before_of<'b, S: SameFile>(earlier: &'b [Call], last: &Call, same: &S) -> Option<Before<'b>> {
+fn before_of<'b, N: Names>(earlier: &'b [Call], last: &Call, names: &N) -> Option<Before<'b>> {
     'calls: for call in earlier {
-        if same.is_same(&call.name, &last.name) {
+        if names.is_same(&call.name, &last.name) {
             return Some(Before {
                 deed: call.deed,
                 name: &call.name,
@@ -266,7 +299,7 @@ fn before_of<'b, S: SameFile>(earlier: &'b [Call], last: &Call, same: &S) -> Opt
     None
 }
 
-impl<'a, C: Clock, E: Write + Drop> Watch for Messages<'a, C, E> {
+impl<'a, C: Clock, N: Names + Drop, E: Write + Drop> Watch for Messages<'a, C, N, E> {
     fn reads(&self, name: &str) {
         self.call(Deed::Reading, &Step::Reading, name);
     }

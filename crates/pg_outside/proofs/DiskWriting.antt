@@ -1,5 +1,5 @@
 -- What a write by name does to a disk, from what the calls say of the name that it leads to.
-use Rattle.std.proofs.Common.{◌≡◌, inl, inr, ⊎_elim, ℕ, List, [], ◌∷◌, ◌++◌, true, false, Option, Some, None, IfSome, Result, Ok, Err, OnOk, OnErr, IsErr, refl, sym, ap, subst, ◌∙◌, arith}
+use Rattle.std.proofs.Common.{◌≡◌, inl, inr, ⊎_elim, ℕ, ◌+◌, ◌<◌, List, [], ◌∷◌, ◌++◌, true, false, Option, Some, None, IfSome, Result, Ok, Err, OnOk, OnErr, IsErr, refl, sym, ap, subst, ◌∙◌, arith}
 use Rattle.std.specs.FinMap as fin
 use Rattle.std.specs.Result.{IsErrAnd}
 use Rattle.std.proofs.lemmas.Grind.{common_steps}
@@ -8,7 +8,7 @@ use Rattle.pg_outside.specs.Inside.disk.Causes.{IsCauseOf}
 use Rattle.pg_outside.specs.Inside.disk.Disks.{Node, Disk, DiskHistory, AreOne, KeepsDisk, HoldsNow, LeadsTo, LeadsToNone}
 use Rattle.pg_outside.specs.Inside.disk.Disks.{IsOpened, IsWritable, IsStat, AppendsBytes, AppendsFront, id_at, node_at, node_of}
 use Rattle.pg_outside.specs.Inside.disk.Writes.{IsIn, KeepsAll, IsPlain, IsDevice, IsProtected, MayWrite, AtWrite, AfterWrite, AfterFailure, IsSeen}
-use Rattle.pg_outside.specs.Inside.disk.Writes.{IsOld, IsSeenMode, AreAllTaken, IsDeep, IsFull, IsWrite, WasKept, StandsFor, mode_of, mode_at}
+use Rattle.pg_outside.specs.Inside.disk.Writes.{IsOld, IsSeenMode, AreAllTaken, LeadsThroughOpen, IsDeep, IsFull, IsWrite, WasKept, StandsFor, mode_of, mode_at}
 use Rattle.pg_outside.specs.Inside.disk.Moments.{RunsCalls, WhereDirect, AtMoment, IsBeside, IsWritten, IsAsBefore, IsSame, HasRest}
 use Rattle.pg_outside.specs.declared.disk.error.WriteError.{WriteError}
 use Rattle.pg_outside.specs.declared.disk.system.FileId.{FileId}
@@ -64,25 +64,28 @@ device_one n d p q one is = record { leads = leads_one n d p q one is.leads; nod
 mode_one : (d : Disk) (p q : List ℕ) → AreOne d p q → mode_at p d ≡ mode_at q d
 mode_one d p q one = ap mode_of (one_node d p q one)
 
-may_one : (kept : List FileId) (d : Disk) (p q : List ℕ) → AreOne d p q → MayWrite p kept d → MayWrite q kept d
-may_one kept d p q one may = record {
+may_one : (kept : List FileId) (d : Disk) (p q : List ℕ) → AreOne d p q → (LeadsThroughOpen q d → ⊥) → MayWrite p kept d → MayWrite q kept d
+may_one kept d p q one by_name may = record {
   writable = subst (λ (o : Option Node). IfSome o (λ node. node.is_writable ≡ true)) (one_node d p q one) may.writable;
   free = λ n is. may.free n (protected_one kept n d q p (sym one) is);
+  by_name = λ plain through. by_name through;
 }
 
 -- by another name for the same
-pub at_one : (p q bytes : List ℕ) (kept : List FileId) (first disk : Disk) → AreOne first p q → AtWrite p bytes kept first disk → AtWrite q bytes kept first disk
-at_one p q bytes kept first disk one at = record {
-  allowed = may_one kept first p q one at.allowed;
+pub at_one : (p q bytes : List ℕ) (kept : List FileId) (first disk : Disk) → AreOne first p q → (LeadsThroughOpen q first → ⊥)
+    → AtWrite p bytes kept first disk → AtWrite q bytes kept first disk
+at_one p q bytes kept first disk one by_name at = record {
+  allowed = may_one kept first p q one by_name at.allowed;
   plain = λ plain. subst (λ (m : Option ℕ). AtMoment q bytes m first disk) (mode_one first p q one)
       (moment_one p q bytes (mode_at p first) first disk one (at.plain (plain_one first q p (sym one) plain)));
   device = λ n is. at.device n (device_one n first q p (sym one) is);
 }
 
-pub after_one : (p q bytes : List ℕ) (before kept : List FileId) (first last : Disk) → AreOne first p q → AfterWrite p bytes before kept first last → AfterWrite q bytes before kept first last
-after_one p q bytes before kept first last one after = record {
+pub after_one : (p q bytes : List ℕ) (before kept : List FileId) (first last : Disk) → AreOne first p q → (LeadsThroughOpen q first → ⊥)
+    → AfterWrite p bytes before kept first last → AfterWrite q bytes before kept first last
+after_one p q bytes before kept first last one by_name after = record {
   links = after.links;
-  allowed = may_one before first p q one after.allowed;
+  allowed = may_one before first p q one by_name after.allowed;
   plain = λ plain.
       let w = after.plain (plain_one first q p (sym one) plain) in
       record {
@@ -142,8 +145,19 @@ seen_node name seen d s = ap (λ (k : Option FileId). node_of k d.files) s.leads
 seen_writable : (name : List ℕ) (seen : FileStatus) (d : Disk) (s : IsSeen name seen d) → IfSome (node_at d name) (λ node. node.is_writable ≡ true)
 seen_writable name seen d s = subst (λ (o : Option Node). IfSome o (λ node. node.is_writable ≡ true)) (sym (seen_node name seen d s)) s.writable
 
-may_write : (name : List ℕ) (kept : List FileId) (mode : Option ℕ) (d : Disk) → MayReplace name kept mode d → MayWrite name kept d
-may_write name kept mode d may = record { writable = may.writable; free = λ n is. may.free n is.leads is.is_kept }
+some_below : (n : ℕ) → 0 < n + 1
+some_below n = omega arith
+
+-- a name that is no link leads through none
+direct_name : (name : List ℕ) (d : Disk) → d.links.is_link name ≡ false → LeadsThroughOpen name d → ⊥
+direct_name name d direct through = true_false (sym (through.links 0 (some_below through.count)) ∙ direct)
+
+may_write : (name : List ℕ) (kept : List FileId) (mode : Option ℕ) (d : Disk) → d.links.is_link name ≡ false → MayReplace name kept mode d → MayWrite name kept d
+may_write name kept mode d direct may = record {
+  writable = may.writable;
+  free = λ n is. may.free n is.leads is.is_kept;
+  by_name = λ plain through. direct_name name d direct through;
+}
 
 pub may_seen : (name : List ℕ) (kept : List FileId) (seen : FileStatus) (d : Disk) → IsSeen name seen d → seen.is_regular ≡ true → (IsIn seen.id kept → ⊥) → MayReplace name kept (Some seen.mode) d
 may_seen name kept seen d s regular apart = record {
@@ -153,18 +167,19 @@ may_seen name kept seen d s regular apart = record {
   free = λ n leads is. apart (subst (λ (k : FileId). IsIn k kept) (some_same n seen.id (sym leads ∙ s.leads)) is);
 }
 
-pub at_may : (name bytes : List ℕ) (kept : List FileId) (mode : Option ℕ) (d disk : Disk) → MayReplace name kept mode d → AtMoment name bytes mode d disk → AtWrite name bytes kept d disk
-at_may name bytes kept mode d disk may at = record {
-  allowed = may_write name kept mode d may;
+pub at_may : (name bytes : List ℕ) (kept : List FileId) (mode : Option ℕ) (d disk : Disk) → d.links.is_link name ≡ false → MayReplace name kept mode d
+    → AtMoment name bytes mode d disk → AtWrite name bytes kept d disk
+at_may name bytes kept mode d disk direct may at = record {
+  allowed = may_write name kept mode d direct may;
   plain = λ plain. subst (λ (m : Option ℕ). AtMoment name bytes m d disk) (sym may.mode_is) at;
   device = λ n is. absurd (device_plain name n d is may.plain);
 }
 
-pub after_may : (name bytes : List ℕ) (before kept : List FileId) (mode : Option ℕ) (n : FileId) (d last : Disk) → MayReplace name before mode d → kept
+pub after_may : (name bytes : List ℕ) (before kept : List FileId) (mode : Option ℕ) (n : FileId) (d last : Disk) → d.links.is_link name ≡ false → MayReplace name before mode d → kept
     ≡ before ++ n ∷ [] → IsWritten name bytes mode n d last → AfterWrite name bytes before kept d last
-after_may name bytes before kept mode n d last may grown written = record {
+after_may name bytes before kept mode n d last direct may grown written = record {
   links = written.links;
-  allowed = may_write name before mode d may;
+  allowed = may_write name before mode d direct may;
   plain = λ plain. record { id = n; grown = grown; written = subst (λ (m : Option ℕ). IsWritten name bytes m n d last) (sym may.mode_is) written };
   device = λ m is. absurd (device_plain name m d is may.plain);
 }
@@ -185,6 +200,7 @@ seen_device name seen d s device plain =
 pub record Leads (real name : List ℕ) (kept : List FileId) (mode : Option ℕ) (d : Disk) : Type 0 where
   pub direct : d.links.is_link real ≡ false
   pub one : AreOne d real name
+  pub by_name : LeadsThroughOpen name d → ⊥
   pub may : MayReplace real kept mode d
 
 seen_one : (p q : List ℕ) (seen : FileStatus) (d : Disk) → AreOne d p q → IsSeen p seen d → IsSeen q seen d
@@ -205,6 +221,7 @@ leads_old real name kept found old mode a b is ab stands place regular free =
     now_weaker _ _ b (now_both _ _ b (keeps_now _ a b is ab) stands) (λ d s. record {
       direct = s.1.direct;
       one = s.1.one;
+      by_name = s.1.by_name;
       may = may_old real name kept found old mode d s.0 s.1 place regular free;
     })
 
@@ -232,8 +249,8 @@ replaces_one : (real name bytes : List ℕ) (kept after : List FileId) (mode : O
     → RunsCalls b c (WhereDirect real (AtMoment real bytes mode)) (WhereDirect real (IsWritten real bytes mode n)) → RunsCalls a c (AtWrite name bytes kept) (AfterWrite name bytes kept after)
 replaces_one real name bytes kept after mode n a b c ab leads grown bc =
     keeps_then _ _ a b c ab (known_start _ _ _ _ (Leads real name kept mode) b c leads bc
-    (λ x y f p. at_one real name bytes kept x y f.one (at_may real bytes kept mode x y f.may (p f.direct)))
-    (λ x y f p. after_one real name bytes kept after x y f.one (after_may real bytes kept after mode n x y f.may grown (p f.direct))))
+    (λ x y f p. at_one real name bytes kept x y f.one f.by_name (at_may real bytes kept mode x y f.direct f.may (p f.direct)))
+    (λ x y f p. after_one real name bytes kept after x y f.one f.by_name (after_may real bytes kept after mode n x y f.direct f.may grown (p f.direct))))
 
 keeps_one_more : (kept : List FileId) (n id : FileId) → IsIn id kept → IsIn id (kept ++ n ∷ [])
 keeps_one_more kept n id is = grind (arith, common_steps)
@@ -258,7 +275,7 @@ replace_found_fails : (real name bytes : List ℕ) (kept : List FileId) (mode : 
     → RunsCalls b c (WhereDirect real (AtMoment real bytes mode)) (WhereDirect real (IsAsBefore real)) → RunsCalls a c (AtWrite name bytes kept) (AfterFailure name bytes)
 replace_found_fails real name bytes kept mode a b c ab leads bc =
     keeps_then _ _ a b c ab (known_start _ _ _ _ (Leads real name kept mode) b c leads bc
-    (λ x y f p. at_one real name bytes kept x y f.one (at_may real bytes kept mode x y f.may (p f.direct)))
+    (λ x y f p. at_one real name bytes kept x y f.one f.by_name (at_may real bytes kept mode x y f.direct f.may (p f.direct)))
     (λ x y f p. failure_one real name bytes x y f.one (failed_may real bytes kept mode x y f.may (p f.direct))))
 
 pub replaces_fails : {T E : Type 0} (result : Result T E) (real name bytes : List ℕ) (kept after : List FileId) (mode : Option ℕ) (a b c : Option DiskHistory)
@@ -286,7 +303,11 @@ same_device : (R : FileId → Disk → Disk → Type 0) (name : List ℕ) (n m :
 same_device R name n m x y leads other p = subst (λ (k : FileId). R k x y) (some_same n m (sym leads ∙ other)) p
 
 may_device : (name : List ℕ) (kept : List FileId) (seen : FileStatus) (x : Disk) → seen.is_regular ≡ false → IsSeen name seen x → MayWrite name kept x
-may_device name kept seen x device s = record { writable = seen_writable name seen x s; free = λ n is. seen_device name seen x s device is.plain }
+may_device name kept seen x device s = record {
+  writable = seen_writable name seen x s;
+  free = λ n is. seen_device name seen x s device is.plain;
+  by_name = λ plain. absurd (seen_device name seen x s device plain);
+}
 
 at_device : (name bytes : List ℕ) (kept : List FileId) (seen : FileStatus) (x y : Disk) → seen.is_regular ≡ false → AppendsFront seen.id bytes x y → IsSeen name seen x → AtWrite name bytes kept x y
 at_device name bytes kept seen x y device p s = record {
@@ -348,9 +369,10 @@ writes_later result first between last before same kept a b c name bytes failure
 -- a write that fails before anything is changed
 pub writes_nothing : {T : Type 0} (result : Result T WriteError) (e : WriteError) (first last : ℕ) (before kept : List FileId) (a b : Option DiskHistory) (name bytes : List ℕ)
     → IsErr result → IsErrAnd result (λ d. d ≡ e) → kept ≡ before → KeepsDisk a b
-    → IsCauseOf first last (HoldsNow b (WasKept name before)) (HoldsNow b (IsDeep name)) (HoldsNow b (IsFull name)) e → IsWrite result first last before kept a b name bytes
+    → IsCauseOf first last (HoldsNow b (WasKept name before)) (HoldsNow b (LeadsThroughOpen name)) (HoldsNow b (IsDeep name)) (HoldsNow b (IsFull name)) e
+    → IsWrite result first last before kept a b name bytes
 writes_nothing result e first last before kept a b name bytes is_err is same ab because = record {
   ok = no_value _ result is_err;
   err = on_err result (same, nothing_failed _ _ _ _ _ ab);
-  cause = passed_on result e _ _ _ _ _ is because;
+  cause = passed_on result e _ _ _ _ _ _ is because;
 }

@@ -12,5 +12,5 @@ mod system;
 pub use error::WriteError;
 pub use files::DiskFiles;
 pub use host::{HostFiles, HostSystem};
-pub use links::linked_name;
+pub use links::{RealName, folder_of, follow, linked_name};
 pub use system::{CallFailed, FileId, FileStatus, NameKind, System};

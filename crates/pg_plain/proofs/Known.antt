@@ -1,5 +1,5 @@
 -- Signs that are at most the greatest.
-use Rattle.std.proofs.Common.{◌≡◌, ℕ, ◌≤◌, nat_le, true, ◌&&◌, List, [], ◌∷◌, refl}
+use Rattle.std.proofs.Common.{◌≡◌, ℕ, ◌≤◌, nat_le, nat_eq, true, ◌&&◌, List, [], ◌∷◌, length, ◌⊎◌, inl, inr, refl}
 use Rattle.std.proofs.lemmas.Bool.{leb-true, le-leb, and_from}
 use Rattle.std.proofs.lemmas.List.Elements.{All-nil, All-cons, All-head, All-tail}
 use Rattle.std.specs.List.{All, list_all}
@@ -7,7 +7,7 @@ use Rattle.pg_types.specs.Inside.counting.Counts.{Counts, is_counted}
 use Rattle.pg_types.specs.Inside.Signs.{SignsWithin, is_sign}
 use Rattle.pg_patterns.specs.Inside.PatternMaps.{SignsUpTo, is_entry}
 use Rattle.pg_plain.specs.Inside.Strings.{has_signs_up_to}
-use Rattle.pg_plain.proofs.Counted.{counted_good}
+use Rattle.pg_plain.proofs.Counted.{counted_good, counted_len}
 use Rattle.pg_types.proofs.BoolFacts.{and_first, and_second}
 use Rattle.pg_patterns.specs.Values.{Patterns}
 
@@ -63,3 +63,18 @@ places_within n (e ∷ es) h =
 
 pub counted_within : (n : ℕ) (C : Counts) → list_all (λ e. has_signs_up_to n e.0) C ≡ true → (u : List ℕ) → is_counted C u ≡ true → SignsWithin n u
 counted_within n C all u there = within_told n u (counted_good (has_signs_up_to n) C u there all)
+
+-- a window that can be entered has the length of the pass
+pub enters_len : (C : Counts) (n : ℕ) (u : List ℕ) (len : ℕ) → (is_counted C u ≡ true) ⊎ ((length u ≡ len) × SignsWithin n u) → list_all (λ e. nat_eq (length e.0) len) C ≡ true → length u ≡ len
+enters_len C n u len can all = elim can [
+  | inl counted ↦ counted_len C u len counted all
+  | inr it ↦ it.0
+]
+
+-- and signs of the table
+pub enters_signs : (C : Counts) (n : ℕ) (u : List ℕ) (len : ℕ) → (is_counted C u ≡ true) ⊎ ((length u ≡ len) × SignsWithin n u) → list_all (λ e. has_signs_up_to n e.0) C ≡ true
+    → has_signs_up_to n u ≡ true
+enters_signs C n u len can all = elim can [
+  | inl counted ↦ counted_good (has_signs_up_to n) C u counted all
+  | inr it ↦ up_to_told n u it.1
+]

@@ -3,9 +3,9 @@ ghost use Rattle.std.specs.Prelude.{◌≡◌, ℕ, ◌≤◌, ◌<◌, ◌+◌,
 ghost use Rattle.pg_types.specs.declared.limits.TheConstants.{LEVEL_MAX, LENGTH_MAX, WORD_LETTERS_MAX};
 ghost use Rattle.pg_types.specs.Inside.Limits.{begun_before_pass};
 ghost use Rattle.pg_types.specs.Inside.Signs.{SignsWithin};
-ghost use Rattle.pg_types.specs.Inside.counting.Counts.{IsNextAbove, counted_sums, is_counted};
+ghost use Rattle.pg_types.specs.Inside.counting.Counts.{IsNextAbove, counted_sums};
 ghost use Rattle.pg_types.specs.Inside.counting.NumberedWindows.{AreInOrder, HasNumber};
-ghost use Rattle.pg_select.specs.Inside.engine.EngineCalls.{CanCount, CountsWindow, Enters};
+ghost use Rattle.pg_select.specs.Inside.engine.EngineCalls.{CanCount, CanEnter, CountsWindow, Enters};
 ghost use Rattle.pg_select.specs.Inside.engine.Meanings.{Meaning, IsMeaning, IsLayout, after_begin_pass, after_choose, after_give_up, after_end_level};
 ghost use Rattle.pg_select.specs.Inside.words.Positions.{HasValues, HasCovers};
 
@@ -107,17 +107,18 @@ pub trait Engine {
         ensures { IsNextAbove (meaning self.now).counts at.old at.new result };
 
     /// Gives the window at the cursor the level as its value, where it has no greater one, at the
-    /// dot of the pass. The window is entered into families that are told. After an error a part of
+    /// dot of the pass. The window is counted, or one of the pass that is counted elsewhere. It is
+    /// entered into families that are told. After an error a part of
     /// it may have been entered.
     fn choose(&mut self, at: &Cursor) -> Result<(), AllocError>
-        requires { is_counted (meaning self.old).counts at.now ≡ true }
+        requires { CanEnter (meaning self.old) at.now }
         ensures { Enters result after_choose (meaning self.old) (meaning self.new) at.now };
 
     /// Makes the window at the cursor hopeless at the dot of the pass, to the end of the level. The
     /// window is entered into families that are told. After an error a part of it may have been
     /// entered.
     fn give_up(&mut self, at: &Cursor) -> Result<(), AllocError>
-        requires { is_counted (meaning self.old).counts at.now ≡ true }
+        requires { CanEnter (meaning self.old) at.now }
         ensures { Enters result after_give_up (meaning self.old) (meaning self.new) at.now };
 
     /// Ends the level: nothing is hopeless any more, and families that are told lose the cells that

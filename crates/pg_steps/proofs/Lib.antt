@@ -1,10 +1,4 @@
-pub mod Results
-pub mod Parts
 pub mod Fronts
-pub mod Faults
-pub mod Writings
-pub mod Orders
-pub mod CountedCalls
-pub mod CountedPuts
-pub mod UnderTable
-pub mod ListOrder
+pub mod InputsRead
+pub mod Stopping
+pub mod Puts

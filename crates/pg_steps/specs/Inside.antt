@@ -1,4 +1,4 @@
--- What only contracts between layers and proofs need.
-pub mod reading
-pub mod writing
-pub mod ends
+-- Inside.
+pub mod Steps
+pub mod Accepting
+pub mod Texts

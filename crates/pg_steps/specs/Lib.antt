@@ -1,9 +1,3 @@
-pub mod Statuses
 pub mod RefusedLines
-pub mod Outcomes
-pub mod Readings
-pub mod Rules
-pub mod Writings
-pub mod Moments
-pub mod FileCalls
+pub mod InputPlans
 pub mod Inside

@@ -1,19 +1,15 @@
 //! The steps that all commands share: they read a file as an input, write files, put lines and end
-//! with an answer.
+//! with an answer. Each says which part of the plan of a call it did.
 #![tactic(auto)]
 
-pub mod answers;
+pub mod ends;
 pub mod inputs;
-pub mod puts;
 pub mod reading;
 pub mod refused;
-pub mod writes;
 
-pub use answers::{Status, exit_code};
+pub use ends::{BuiltTexts, OutputFile, answer, end, push_file, put_stop};
 pub use inputs::{Given, Input, Stop};
-pub use puts::{answer, put_stop};
 pub use reading::{
-    read_dictionary, read_front, read_lists, read_parameters, read_patterns, read_table, refuse,
+    read_dictionary, read_front, read_parameters, read_patterns, read_table, refuse,
 };
 pub use refused::push_label;
-pub use writes::{BuiltTexts, OutputFile, end, push_file};

@@ -1,20 +1,15 @@
 //! The readers of the input files.
-ghost use Rattle.std.specs.Prelude.{◌≡◌, ◌+◌, ◌-◌, ◌<◌, ◌^◌, ℕ, List, [], ◌∷◌, take, IfOk, IfErr, IfSome, Some, Ok};
-ghost use Rattle.std.specs.Option.{option_map};
-ghost use Rattle.pg_types.specs.Parameters.{parameters};
-ghost use Rattle.pg_outside.specs.Content.{file_at};
-ghost use Rattle.pg_outside.specs.FilesCalls.{Reads};
+ghost use Rattle.std.specs.Prelude.{◌≡◌, ◌+◌, ◌-◌, ◌<◌, ◌^◌, IfOk};
 ghost use Rattle.pg_translate.specs.Alphabets.{letters_of};
-ghost use Rattle.pg_translate.specs.Tables.{table as table_of_file};
 ghost use Rattle.pg_dict.specs.Inside.SoundWords.{SignsAtMost};
+ghost use Rattle.pg_patterns.specs.Inside.PatternMaps.{SignsUpTo};
+ghost use Rattle.pg_types.specs.Parameters.{parameters};
+ghost use Rattle.pg_translate.specs.Tables.{table as table_of_file};
 ghost use Rattle.pg_dict.specs.DictionaryWords.{words};
 ghost use Rattle.pg_patterns.specs.Starts.{start};
-ghost use Rattle.pg_patterns.specs.Inside.PatternMaps.{SignsUpTo};
-ghost use Rattle.pg_steps.specs.FileCalls.{MakesCalls};
-ghost use Rattle.pg_steps.specs.Inside.reading.ReadAs.{read_as};
-ghost use Rattle.pg_steps.specs.Inside.reading.Lists.{lists_under, HasLists};
-ghost use Rattle.pg_steps.specs.Inside.reading.ReadsMade.{ReadsInput};
-ghost use Rattle.pg_steps.specs.Inside.ends.Stops.{OnlyReads, accepted_as, StopsFront, StopsReading};
+ghost use Rattle.pg_steps.specs.InputPlans.{input as input_plan};
+ghost use Rattle.pg_steps.specs.Inside.Steps.{Gives, ReadsFront};
+ghost use Rattle.pg_steps.specs.Inside.Accepting.{accepted_as};
 
 use crate::inputs::{Input, Stop};
 use pg_dict::Dictionary;
@@ -34,12 +29,7 @@ pub fn read_front<'a, F: Files, W: Watch>(
     watch: &W,
 ) -> Result<Vec<u8>, Stop<'a>>
     requires { limit < 2 ^ 64 - 1 }
-    ensures only { OnlyReads (F.shown files.old) (F.shown files.new) }
-    ensures calls { MakesCalls (F.shown files.old) (F.shown files.new) (Reads name.now ∷ []) }
-    ensures front { IfOk result (λ bytes.
-        IfSome (F.shown files.new).held (λ files.
-        option_map (take (limit + 1)) (file_at files name.now) ≡ Some bytes.items)) }
-    ensures stopped { IfErr result (StopsFront name.now (F.shown files.old) (F.shown files.new)) }
+    ensures { ReadsFront name.now limit result (F.shown files.old) (F.shown files.new) }
 {
     watch.reads(name);
     let mut bytes = Vec::new(alloc);
@@ -92,8 +82,8 @@ pub fn read_table<'a, F: Files, W: Watch>(
     files: &mut F,
     watch: &W,
 ) -> Result<Table, Stop<'a>>
-    ensures { ReadsInput Input.Translate name.now table_of_file
-        (F.shown files.old) (F.shown files.new) result }
+    ensures { Gives (input_plan Input.Translate name.now table_of_file) result
+        (F.shown files.old) (F.shown files.new) }
 {
     let bytes = read_front(alloc, name, FILE_MAX, files, watch)?;
     let read = Table::read(alloc, &bytes);
@@ -111,7 +101,8 @@ pub fn read_parameters<'a, F: Files, W: Watch>(
     files: &mut F,
     watch: &W,
 ) -> Result<Params, Stop<'a>>
-    ensures { ReadsInput input name.now parameters (F.shown files.old) (F.shown files.new) result }
+    ensures { Gives (input_plan input name.now parameters) result
+        (F.shown files.old) (F.shown files.new) }
 {
     let bytes = read_front(alloc, name, FILE_MAX, files, watch)?;
     let read = read_params(alloc, &bytes);
@@ -126,8 +117,8 @@ pub fn read_patterns<'a, F: Files, W: Watch>(
     files: &mut F,
     watch: &W,
 ) -> Result<PatternSet, Stop<'a>>
-    ensures read { ReadsInput Input.Patterns name.now (start table.now)
-        (F.shown files.old) (F.shown files.new) result }
+    ensures read { Gives (input_plan Input.Patterns name.now (start table.now)) result
+        (F.shown files.old) (F.shown files.new) }
     ensures known { IfOk result (SignsUpTo (letters_of table.now + 1)) }
 {
     let bytes = read_front(alloc, name, FILE_MAX, files, watch)?;
@@ -146,8 +137,8 @@ pub fn read_dictionary<'a, F: Files, W: Watch>(
     files: &mut F,
     watch: &W,
 ) -> Result<Dictionary, Stop<'a>>
-    ensures read { ReadsInput Input.Dictionary name.now (words table.now)
-        (F.shown files.old) (F.shown files.new) result }
+    ensures read { Gives (input_plan Input.Dictionary name.now (words table.now)) result
+        (F.shown files.old) (F.shown files.new) }
     ensures signs { IfOk result (SignsAtMost (letters_of table.now + 1)) }
 {
     let bytes = read_front(alloc, name, FILE_MAX, files, watch)?;
@@ -156,31 +147,4 @@ pub fn read_dictionary<'a, F: Files, W: Watch>(
         watch.words(name, dictionary, table);
     }
     accept(read, Input::Dictionary, name, &bytes, Some(table), watch)
-}
-
-/// Reads a pattern file and then the dictionary, both under a table.
-pub fn read_lists<'a, F: Files, W: Watch>(
-    alloc: Global,
-    table: &Table,
-    patterns: &'a str,
-    dict: &'a str,
-    files: &mut F,
-    watch: &W,
-) -> Result<(PatternSet, Dictionary), Stop<'a>>
-    ensures only { OnlyReads (F.shown files.old) (F.shown files.new) }
-    ensures ok { IfOk result (λ lists. IfSome (F.shown files.new).held (λ files.
-        HasLists (file_at files) table.now patterns.now dict.now lists.0 lists.1)) }
-    ensures signs { IfOk result (λ lists. SignsUpTo (letters_of table.now + 1) lists.0
-        × SignsAtMost (letters_of table.now + 1) lists.1) }
-    ensures counted { IfOk result (λ _. MakesCalls (F.shown files.old) (F.shown files.new)
-        (Reads patterns.now ∷ Reads dict.now ∷ [])) }
-    ensures stopped { (translate : List ℕ)
-        → IfSome (F.shown files.old).held
-        (λ files. read_as table_of_file (file_at files) translate ≡ Some (Ok table.now))
-        → IfErr result (StopsReading (lists_under translate patterns.now dict.now)
-        (F.shown files.old) (F.shown files.new)) }
-{
-    let start = read_patterns(alloc, table, patterns, files, watch)?;
-    let dictionary = read_dictionary(alloc, table, dict, files, watch)?;
-    Ok((start, dictionary))
 }

@@ -6,10 +6,10 @@ use Rattle.pg_outside.specs.Faults.{Rose}
 use Rattle.pg_outside.specs.Inside.disk.Disks as disk
 use Rattle.pg_outside.specs.Inside.disk.Disks.{Disk, Node, ChangesDisk, HoldsNow, IsKindOf, IsFollowedBy, IsOpened, IsWritable, IsNameTaken, LeadsToNone, IsStat, ChangesOnlyFile, AppendsFront}
 use Rattle.pg_outside.specs.Inside.disk.NewNames.{IsLinkedName}
-use Rattle.pg_outside.specs.declared.disk.system.NameKind.TheVariants.{Missing, Link, File}
+use Rattle.pg_outside.specs.declared.disk.system.NameKind.TheVariants.{Missing, Link, OpenFile, File}
 use Rattle.pg_outside.specs.declared.disk.system.FileId.{FileId}
 use Rattle.pg_told_disk.specs.Inside.Changes.{number_in, mode_in, bytes_in, stored_in, node_with, lets_write, id_of, disk_in}
-use Rattle.pg_told_disk.specs.Inside.LinkLists.{link_named, real_in, said_or}
+use Rattle.pg_told_disk.specs.Inside.LinkLists.{link_named, is_open_one, real_in, said_or}
 use Rattle.pg_told_disk.specs.Inside.Memory.{told_where}
 use Rattle.pg_told_disk.specs.Inside.laws.FollowedLinks.{not_link, said_same}
 use Rattle.pg_told_disk.specs.declared.change.Change.{Change}
@@ -17,6 +17,7 @@ use Rattle.pg_told_disk.specs.declared.change.Change.TheVariants.{Made, GotMode,
 use Rattle.pg_told_disk.specs.declared.links.Link as linked
 use Rattle.pg_told_disk.specs.Inside.laws.ChangeLaws.{id_in, id_none, id_same, of_node, after_made, after_wrote, after_stayed, after_part, after_removed, after_refused, after_renamed, after_got_mode, after_stored}
 use Rattle.pg_told_disk.specs.Inside.laws.Nodes.{named_has}
+use Rattle.std.proofs.lemmas.Bool.{false≢true}
 use Rattle.pg_told_disk.proofs.Joined.{one_joined}
 use Rattle.pg_told_disk.proofs.ToldBy.{steps, told_now}
 
@@ -41,8 +42,18 @@ none_in links log q is = id_in links log q ∙ id_none (number_in log (real_in l
 stands : (links : List linked.Link) (log : List Change) (q : List ℕ) (o : Option ℕ) → is_some (link_named links q) ≡ false → number_in log q ≡ o → number_in log (real_in links q) ≡ o
 stands links log q o unlinked is = ap (λ (r : List ℕ). number_in log r) (not_link links q unlinked) ∙ is
 
-pub is_linked : (b : Bool) (links : List linked.Link) (log : List Change) (q : List ℕ) → is_some (link_named links q) ≡ true → HoldsNow (told_where b links log) (IsKindOf q Link)
-is_linked b links log q is = told_now b links log (IsKindOf q Link) is
+pub is_linked : (b : Bool) (links : List linked.Link) (log : List Change) (q : List ℕ) → is_some (link_named links q) ≡ true → is_open_one (link_named links q) ≡ false
+    → HoldsNow (told_where b links log) (IsKindOf q Link)
+is_linked b links log q is closed = told_now b links log (IsKindOf q Link) (is, closed)
+
+-- a link to an open file is one
+open_some : (o : Option linked.Link) → is_open_one o ≡ true → is_some o ≡ true
+open_some None is = absurd (false≢true is)
+open_some (Some link) is = refl
+
+pub is_open_file : (b : Bool) (links : List linked.Link) (log : List Change) (q : List ℕ) → is_open_one (link_named links q) ≡ true
+    → HoldsNow (told_where b links log) (IsKindOf q OpenFile)
+is_open_file b links log q is = told_now b links log (IsKindOf q OpenFile) (open_some (link_named links q) is, is)
 
 pub is_missing : (b : Bool) (links : List linked.Link) (log : List Change) (q : List ℕ) → is_some (link_named links q) ≡ false → number_in log q ≡ None
     → HoldsNow (told_where b links log) (IsKindOf q Missing)

@@ -1,17 +1,19 @@
 //! The links of a disk, the name that each says, and what a name stands for.
 ghost use Rattle.std.specs.Prelude.{◌≡◌, None, Some, MatchOption, IfSome, string_bytes};
 ghost use Rattle.pg_outside.specs.Inside.disk.NewNames.{IsLinkedName};
-ghost use Rattle.pg_told_disk.specs.Inside.LinkLists.{link_named, is_link_in, real_in};
+ghost use Rattle.pg_told_disk.specs.Inside.LinkLists.{link_named, is_link_in, is_open_in, real_in};
 
 use pg_outside::linked_name;
 use std::alloc::Global;
 
-/// A link: its name, its text, and the name that this says.
+/// A link: its name, its text, the name that this says, and whether the link is one of the system to
+/// an open file.
 #[derive(Drop)]
 pub(crate) struct Link {
     pub name: String,
     pub text: String,
     pub said: String,
+    pub is_open: bool,
 }
 
 /// The link of this name, if there is one.
@@ -34,6 +36,16 @@ pub(crate) fn is_link(links: &[Link], name: &str) -> bool
     ensures { result ≡ is_link_in links.now name.now }
 {
     link_of(links, name).is_some()
+}
+
+/// Whether the name is a link of the system to an open file.
+pub(crate) fn is_open(links: &[Link], name: &str) -> bool
+    ensures { result ≡ is_open_in links.now name.now }
+{
+    match link_of(links, name) {
+        Some(link) => link.is_open,
+        None => false,
+    }
 }
 
 /// What the name stands for once each link is followed.

@@ -4,7 +4,7 @@ ghost use Rattle.pg_outside.specs.Faults.{Rose};
 ghost use Rattle.pg_told_disk.specs.Inside.Changes.{IsHeldIn};
 
 use crate::change::Change;
-use crate::links::{Link, is_link, link_of, real_of, text_of};
+use crate::links::{Link, is_link, is_open, link_of, real_of, text_of};
 use crate::lookup::{bytes_of, lets_write, mode_of, number_of};
 use pg_outside::{CallFailed, FileId, FileStatus, NameKind, System, linked_name};
 use std::alloc::{AllocError, Global};
@@ -131,10 +131,31 @@ impl ToldDisk {
     /// # Errors
     /// Where there is not enough memory.
     pub fn add_link(&mut self, name: &str, text: &str) -> Result<(), AllocError> {
+        self.add_any_link(name, text, false)
+    }
+
+    /// Makes a link as the system does to an open file, under a name that is no link so far.
+    ///
+    /// # Errors
+    /// Where there is not enough memory.
+    pub fn add_open_file(&mut self, name: &str, text: &str) -> Result<(), AllocError> {
+        self.add_any_link(name, text, true)
+    }
+
+    /// Makes a link of one of the two kinds.
+    fn add_any_link(&mut self, name: &str, text: &str, is_open: bool) -> Result<(), AllocError> {
         let said = linked_name(self.alloc, name, text)?;
         let name = String::from_str(self.alloc, name)?;
         let text = String::from_str(self.alloc, text)?;
-        self.links.insert(0, Link { name, text, said })?;
+        self.links.insert(
+            0,
+            Link {
+                name,
+                text,
+                said,
+                is_open,
+            },
+        )?;
         Ok(())
     }
 
@@ -224,6 +245,9 @@ impl System for ToldDisk {
     fn look(&mut self, name: &str) -> Result<NameKind, CallFailed> {
         if self.failing.next_fails() {
             return Err(CallFailed);
+        }
+        if is_open(&self.links, name) {
+            return Ok(NameKind::OpenFile);
         }
         if is_link(&self.links, name) {
             return Ok(NameKind::Link);

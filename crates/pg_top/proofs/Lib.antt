@@ -1,10 +1,7 @@
-pub mod ReadsStopped
+pub mod Results
 pub mod PrintedPieces
 pub mod Selections
 pub mod SelectedLists
-pub mod CountedEnds
-pub mod Calls
-pub mod Promised
-pub mod Built
-pub mod Completeness
-pub mod OutcomeRows
+pub mod Asked
+mod OutcomeRows
+pub mod theorems

@@ -1,18 +1,13 @@
--- The files of a selection in their order, as they are made, written and compared.
+-- The files of a selection in their order, as they are made and written.
 use Rattle.std.proofs.Common.{◌≡◌, ℕ, List, [], ◌∷◌, ◌++◌, map, Option, None, Some, refl, sym, ap, ◌∙◌}
-use Rattle.std.specs.Option.{option_map}
 use Rattle.std.proofs.lemmas.List.{map-append}
 use Rattle.std.proofs.lemmas.Simd.{map-map}
-use Rattle.pg_audit.specs.Differences.{first_false}
-use Rattle.pg_steps.specs.Readings.{Reading}
 use Rattle.pg_steps.specs.declared.inputs.Given.{Given}
 use Rattle.pg_steps.specs.declared.inputs.Given.TheVariants as given
 use Rattle.pg_words.specs.forms.Generate.{FileNames, if_asked}
-use Rattle.pg_top.specs.Selection.{selected_text, selected_list, selected_cells_text, selected_report, selected_file, selected_names}
-use Rattle.pg_top.specs.audit.AuditRule.{denies}
-use Rattle.pg_top.specs.audit.Inside.Verdicts.{wanted_files, given_files}
-use Rattle.pg_top.specs.generate.GenerateRule.{selected_files}
-use Rattle.pg_top.specs.Inside.selection.SelectedFiles.{made_file, made_files, written_file, due_files}
+use Rattle.pg_top.specs.Selection.{selected_text, selected_list, selected_cells_text, selected_report, selected_file}
+use Rattle.pg_top.specs.Inside.Requests.{selected_names}
+use Rattle.pg_top.specs.Inside.selection.SelectedFiles.{made_file, made_files, written_file, due_files, selected_files}
 use Rattle.pg_top.specs.declared.selected_files.SelectedFile.{SelectedFile}
 use Rattle.pg_top.specs.declared.selection.Inputs.{Inputs}
 
@@ -45,10 +40,3 @@ module _ (fs : List SelectedFile) (n : FileNames) (i : Inputs) (is : made_files 
     where
       named : Given × List ℕ × List ℕ → List ℕ × List ℕ
       named f = (f.1, f.2)
-
-  -- and compared
-  pub wanted_made : wanted_files fs ≡ given_files (λ _. Some i) n
-  wanted_made = sym (map-map reading made_file fs) ∙ ap (map reading) is ∙ map-map reading (λ g. (g.0, g.1, selected_file i g.0)) (selected_names n)
-    where
-      reading : Given × List ℕ × List ℕ → Reading
-      reading f = record { name = f.1; ends = λ files bytes. option_map (denies f.0) (first_false bytes f.2) }

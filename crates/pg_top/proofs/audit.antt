@@ -1,2 +1,1 @@
-pub mod GivenFronts
 pub mod Judgements

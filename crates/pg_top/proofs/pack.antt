@@ -1,3 +1,2 @@
-pub mod PackOrder
 pub mod PackedTexts
 pub mod PackedHeads

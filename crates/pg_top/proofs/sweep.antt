@@ -1,3 +1,2 @@
-pub mod SetFiles
-pub mod SweepOrder
+pub mod SetReads
 pub mod SweepTexts

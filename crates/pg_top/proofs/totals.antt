@@ -1,1 +1,1 @@
-pub mod TotalsOrder
+pub mod PackedTables

@@ -1,3 +1,8 @@
 -- What only contracts between layers and proofs need.
-pub mod ends
+pub mod Comparing
+pub mod Packed
+pub mod Requests
+pub mod Sampled
+pub mod Swept
+pub mod Totalled
 pub mod selection

@@ -1,14 +1,11 @@
 //! `audit`: given files, which are compared with those that `generate` would write.
-ghost use Rattle.std.specs.Prelude.{◌≡◌, IfOk, IfErr, IfSome, None};
-ghost use Rattle.pg_outside.specs.Content.{file_at};
-ghost use Rattle.pg_outside.specs.Faults.{next_count};
-ghost use Rattle.pg_steps.specs.Rules.{outcome_of};
-ghost use Rattle.pg_top.specs.audit.AuditRule.{audit_rule};
+ghost use Rattle.std.specs.Prelude.{◌≡◌, None};
+ghost use Rattle.pg_outside.specs.Content.{FilesShown};
+ghost use Rattle.pg_plans.specs.Plans.{Follows};
+ghost use Rattle.pg_steps.specs.Inside.Steps.{Begins};
 ghost use Rattle.pg_words.specs.Inside.CommandRequests.{texts_of};
-ghost use Rattle.pg_steps.specs.Inside.ends.Stops.{OnlyReads, StopsReading};
-ghost use Rattle.pg_top.specs.audit.Inside.Verdicts.{outcome_by, ReadsToFind, PutsVerdict};
-ghost use Rattle.pg_top.specs.Answers.{IsCall};
-ghost use Rattle.pg_steps.specs.FileCalls.{MakesAnswerCalls};
+ghost use Rattle.pg_top.specs.Inside.Comparing.{end_of};
+ghost use Rattle.pg_top.specs.Inside.Requests.{audit_plan};
 
 mod compare;
 mod no_lines;
@@ -18,7 +15,8 @@ use crate::audit::compare::{Verdict, compare_all};
 use crate::audit::wanted::make_wanted;
 use crate::generate::read_inputs;
 use pg_outside::{Files, Sink};
-use pg_steps::{Status, Stop, answer, put_stop};
+use pg_plans::Status;
+use pg_steps::{Stop, answer, put_stop};
 use pg_watch::Watch;
 use pg_words::Names;
 use std::alloc::Global;
@@ -34,15 +32,8 @@ pub fn audit_files<'a, F: Files, W: Watch>(
     watch: &W,
 ) -> Result<Verdict, Stop<'a>>
     requires { names.now.cells ≡ None }
-    ensures only { OnlyReads (F.shown files.old) (F.shown files.new) }
-    ensures ok { IfOk result (λ verdict. IfSome (F.shown files.new).held (λ files.
-        outcome_of (file_at files) (audit_rule (texts_of names.now)) ≡ outcome_by verdict)) }
-    ensures counted { IfOk result (λ verdict.
-        ReadsToFind (audit_rule (texts_of names.now)).reads verdict
-        (F.shown files.old) (F.shown files.new)) }
-    ensures stopped { IfErr result
-        (StopsReading (audit_rule (texts_of names.now)).reads
-        (F.shown files.old) (F.shown files.new)) }
+    ensures { Begins (audit_plan (texts_of names.now)) result end_of
+        (F.shown files.old) (F.shown files.new) }
 {
     let inputs = read_inputs(alloc, names, files, watch)?;
     let wanted = make_wanted(alloc, names, &inputs, watch);
@@ -53,8 +44,8 @@ pub fn audit_files<'a, F: Files, W: Watch>(
 
 /// Puts the line of a verdict, and gives its answer.
 pub fn put_verdict<O: Sink, W: Watch>(out: &mut O, verdict: &Verdict, watch: &W) -> Status
-    ensures put { PutsVerdict verdict.now result (O.shown out.old) (O.shown out.new) }
-    ensures counted { (O.shown out.new).puts ≡ next_count (O.shown out.old).puts }
+    ensures { (files : FilesShown) → Follows (end_of verdict.now) result
+        (files, O.shown out.old) (files, O.shown out.new) }
 {
     match verdict {
         Verdict::Equal => answer(out, YES, Status::Yes, watch),
@@ -71,9 +62,7 @@ pub fn audit<F: Files, O: Sink, W: Watch>(
     watch: &W,
 ) -> Status
     requires { names.now.cells ≡ None }
-    ensures call { IsCall (audit_rule (texts_of names.now)) result
-        (F.shown files.old, O.shown out.old) (F.shown files.new, O.shown out.new) }
-    ensures counted { MakesAnswerCalls (audit_rule (texts_of names.now)) result
+    ensures { Follows (audit_plan (texts_of names.now)) result
         (F.shown files.old, O.shown out.old) (F.shown files.new, O.shown out.new) }
 {
     match audit_files(alloc, names, files, watch) {

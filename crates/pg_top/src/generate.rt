@@ -1,7 +1,8 @@
 //! `generate`: the patterns that a selection finds, and what is told of them.
 ghost use Rattle.pg_words.specs.Inside.CommandRequests.{texts_of};
-ghost use Rattle.pg_top.specs.generate.GenerateRule.{generate_rule};
-ghost use Rattle.pg_steps.specs.Inside.ends.BuiltTexts.{Builds};
+ghost use Rattle.pg_steps.specs.Inside.Steps.{Begins};
+ghost use Rattle.pg_steps.specs.Inside.Texts.{ending_of};
+ghost use Rattle.pg_top.specs.Inside.Requests.{generate_plan};
 
 mod inputs;
 mod outputs;
@@ -21,8 +22,8 @@ pub fn generate_files<'a, F: Files, W: Watch>(
     files: &mut F,
     watch: &W,
 ) -> Result<BuiltTexts<'a>, Stop<'a>>
-    ensures { Builds (generate_rule (texts_of names.now))
-        (F.shown files.old) (F.shown files.new) result }
+    ensures { Begins (generate_plan (texts_of names.now)) result ending_of
+        (F.shown files.old) (F.shown files.new) }
 {
     let inputs = read_inputs(alloc, names, files, watch)?;
     let outputs = make_outputs(alloc, names, &inputs, watch);

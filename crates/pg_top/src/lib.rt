@@ -4,6 +4,7 @@
 
 mod audit;
 mod generate;
+pub mod laws;
 mod pack;
 mod printed;
 mod prune;
@@ -14,7 +15,7 @@ mod sweep;
 mod top;
 mod totals;
 
-pub use pg_steps::{Status, exit_code};
+pub use pg_plans::{Status, exit_code};
 pub use pg_words::{Command, Names, SweepWords, command};
 pub use sample::sample_text;
 pub use top::{run, run_watched};

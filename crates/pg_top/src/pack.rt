@@ -1,15 +1,16 @@
 //! `pack`: patterns as a packed table.
-ghost use Rattle.pg_words.specs.Inside.CommandRequests.{pack_of};
-ghost use Rattle.pg_top.specs.pack.PackRule.{pack_rule};
-ghost use Rattle.pg_steps.specs.Inside.ends.BuiltTexts.{Builds};
+ghost use Rattle.std.specs.Prelude.{IfOk};
+ghost use Rattle.pg_plans.specs.Calls.{Told};
+ghost use Rattle.pg_steps.specs.Inside.Steps.{Begins};
+ghost use Rattle.pg_steps.specs.Inside.Texts.{ending_of};
+ghost use Rattle.pg_top.specs.Packing.{packed};
+ghost use Rattle.pg_top.specs.Promises.{PackPromise};
 
-mod inputs;
 mod outputs;
 
-use crate::pack::inputs::read_pack;
 use crate::pack::outputs::make_table;
 use pg_outside::Files;
-use pg_steps::{BuiltTexts, Stop};
+use pg_steps::{BuiltTexts, Stop, read_patterns, read_table};
 use pg_watch::Watch;
 use pg_words::PackNames;
 use std::alloc::Global;
@@ -21,11 +22,16 @@ pub fn pack_files<'a, F: Files, W: Watch>(
     files: &mut F,
     watch: &W,
 ) -> Result<BuiltTexts<'a>, Stop<'a>>
-    ensures { Builds (pack_rule (pack_of names.now))
-        (F.shown files.old) (F.shown files.new) result }
+    ensures begins { Begins
+        (packed names.now.patterns.now names.now.translate.now names.now.table.now)
+        result ending_of (F.shown files.old) (F.shown files.new) }
+    ensures promised { IfOk result (λ _. Told (F.shown files.old).held (F.shown files.new).held
+        (λ before after. PackPromise before names.now.patterns.now names.now.translate.now)) }
 {
-    let source = read_pack(alloc, names, files, watch)?;
-    let outputs = make_table(alloc, names.table, &source, watch);
-    drop(source);
+    let table = read_table(alloc, names.translate, files, watch)?;
+    let patterns = read_patterns(alloc, &table, names.patterns, files, watch)?;
+    let outputs = make_table(alloc, names.table, &table, &patterns, watch);
+    drop(patterns);
+    drop(table);
     Ok(outputs?)
 }

@@ -1,16 +1,16 @@
 //! `sample`: the selection on a dictionary that is made from a number.
-ghost use Rattle.std.specs.Prelude.{◌≡◌, ◌+◌, ◌≤◌, ◌++◌, IfOk, OnOk, Some, Ok};
+ghost use Rattle.std.specs.Prelude.{◌≡◌, ◌+◌, ◌≤◌, ◌++◌, [], IfOk, OnOk, Ok};
 ghost use Rattle.pg_dict.specs.DictionaryWords.{words};
 ghost use Rattle.pg_words.specs.declared.limits.TheConstants.{COUNT_MAX};
 ghost use Rattle.pg_translate.specs.Alphabets.{letters_of};
 ghost use Rattle.pg_translate.specs.Tables.{default_alphabet};
 ghost use Rattle.pg_dict.specs.Inside.SoundWords.{SignsAtMost};
-ghost use Rattle.pg_steps.specs.Inside.writing.PutCounts.{MakesLinePuts};
-ghost use Rattle.pg_top.specs.sample.SampleRule.{is_printed as is_printed_line, sample_inputs, sample_lines as lines_of, sample_parameters, sample_text as made_text};
-ghost use Rattle.pg_top.specs.sample.Inside.Lines.{printed_part, printed_lines};
+ghost use Rattle.pg_outside.specs.Content.{FilesShown};
+ghost use Rattle.pg_plans.specs.Plans.{Ending, Follows};
+ghost use Rattle.pg_top.specs.Sampling.{is_printed as is_printed_line, sample_inputs, sample_lines as lines_of, sample_parameters, sample_text as made_text, sampled};
+ghost use Rattle.pg_top.specs.Inside.Sampled.{printed_part, IsSample};
 ghost use Rattle.pg_top.specs.Inside.selection.SelectionSigns.{HasSigns};
 ghost use Rattle.pg_top.specs.Inside.selection.SelectedRuns.{IsNew, TellsSelection};
-ghost use Rattle.pg_steps.specs.Inside.ends.Stops.{PutsLines};
 
 mod words;
 
@@ -21,8 +21,9 @@ use pg_driver::Run;
 use pg_outside::Sink;
 use pg_packed::PackedEngine;
 use pg_patterns::PatternSet;
+use pg_plans::Status;
 use pg_select::Engine;
-use pg_steps::{Status, answer};
+use pg_steps::answer;
 use pg_translate::Table;
 use pg_types::{Params, ReadingError, next_line, read_params};
 use pg_watch::{Watch, Watched};
@@ -75,7 +76,7 @@ fn sample_dictionary(
 /// What the selection is made of.
 fn make_inputs(alloc: Global, seed: u32, count: u32) -> Result<Inputs, AllocError>
     requires { count ≤ COUNT_MAX }
-    ensures inputs { IfOk result (λ inputs. sample_inputs seed count ≡ Some inputs) }
+    ensures inputs { IfOk result (IsSample seed count) }
     ensures signs { IfOk result HasSigns }
 {
     let table = Table::default_letters(alloc)?;
@@ -160,7 +161,8 @@ fn sample_lines<W: Watch>(
     watch: &W,
 ) -> Result<Vec<u8>, AllocError>
     requires { count ≤ COUNT_MAX }
-    ensures { IfOk result (λ lines. printed_lines seed count ≡ Some lines.items) }
+    ensures { IfOk result
+        (λ lines. sampled seed count ≡ Ending Status.Done [] lines.items) }
 {
     let inputs = make_inputs(alloc, seed, count)?;
     run_lines(alloc, &inputs, watch)
@@ -175,8 +177,8 @@ pub fn sample<O: Sink, W: Watch>(
     watch: &W,
 ) -> Status
     requires { count ≤ COUNT_MAX }
-    ensures put { PutsLines (printed_lines seed count) result (O.shown out.old) (O.shown out.new) }
-    ensures counted { MakesLinePuts result (O.shown out.old) (O.shown out.new) }
+    ensures { (files : FilesShown) → Follows (sampled seed count) result
+        (files, O.shown out.old) (files, O.shown out.new) }
 {
     match sample_lines(alloc, seed, count, watch) {
         Ok(lines) => answer(out, &lines, Status::Done, watch),

@@ -1,8 +1,9 @@
 //! `sweep`: the cheapest of several parameter files.
 ghost use Rattle.std.specs.Prelude.{◌≤◌, length};
 ghost use Rattle.pg_words.specs.Inside.CommandRequests.{sweep_of, KeepsSweepLimits};
-ghost use Rattle.pg_top.specs.sweep.SweepRule.{sweep_rule};
-ghost use Rattle.pg_steps.specs.Inside.ends.BuiltTexts.{Builds};
+ghost use Rattle.pg_steps.specs.Inside.Steps.{Begins};
+ghost use Rattle.pg_steps.specs.Inside.Texts.{ending_of};
+ghost use Rattle.pg_top.specs.Inside.Requests.{sweep_plan};
 
 mod engines;
 mod inputs;
@@ -41,8 +42,8 @@ pub fn sweep_files<'a, F: Files, W: Watch>(
     watch: &W,
 ) -> Result<BuiltTexts<'a>, Stop<'a>>
     requires { KeepsSweepLimits words.now }
-    ensures { Builds (sweep_rule (sweep_of words.now))
-        (F.shown files.old) (F.shown files.new) result }
+    ensures { Begins (sweep_plan (sweep_of words.now)) result ending_of
+        (F.shown files.old) (F.shown files.new) }
 {
     let inputs = read_sweep(alloc, words, files, watch)?;
     tell_lowest(words.patterns, &inputs.sets, &inputs.start, watch);

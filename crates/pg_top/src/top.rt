@@ -1,8 +1,10 @@
 //! The one call of the program.
-ghost use Rattle.std.specs.Prelude.{Some};
-ghost use Rattle.pg_words.specs.Commands.{request_of_call};
+ghost use Rattle.std.specs.Prelude.{◌≡◌, Some, map, string_bytes};
+ghost use Rattle.pg_plans.specs.Plans.{Follows};
 ghost use Rattle.pg_words.specs.Inside.CommandRequests.{asked_by, KeepsLimits};
-ghost use Rattle.pg_top.specs.WholeCalls.{IsRun};
+ghost use Rattle.pg_top.specs.Commands.{plan_of, IsRun, CallsNoFile};
+ghost use Rattle.pg_top.specs.Inside.Requests.{plan_by};
+ghost use Rattle.pg_top.specs.Promises.{IsPromised, KeepsPromise};
 
 use crate::audit::audit;
 use crate::generate::generate_files;
@@ -13,7 +15,8 @@ use crate::sample::sample;
 use crate::sweep::sweep_files;
 use crate::totals::total_files;
 use pg_outside::{Files, Sink};
-use pg_steps::{Status, answer, end};
+use pg_plans::Status;
+use pg_steps::{answer, end};
 use pg_watch::{Quiet, Watch};
 use pg_words::{Command, PackNames, PruneNames, TotalsNames, command};
 use std::alloc::Global;
@@ -27,8 +30,12 @@ fn perform<F: Files, O: Sink, W: Watch>(
     watch: &W,
 ) -> Status
     requires { KeepsLimits command.now }
-    ensures { IsRun (Some (asked_by command.now)) result files.old files.new
+    ensures follows { Follows (plan_by (asked_by command.now)) result
         (F.shown files.old, O.shown out.old) (F.shown files.new, O.shown out.new) }
+    ensures uncalled { CallsNoFile (Some (plan_by (asked_by command.now)))
+        → files.new ≡ files.old }
+    ensures promised { result ≡ Status.Done
+        → KeepsPromise (asked_by command.now) (F.shown files.old) (F.shown files.new) }
 {
     let built = match *command {
         Command::Generate(names) => generate_files(alloc, &names, files, watch),
@@ -102,8 +109,11 @@ fn perform<F: Files, O: Sink, W: Watch>(
 /// After all answers but `Done` and `Fault` the files are as they were. Where the arguments are no
 /// command, and for `sample`, `files` is not called.
 pub fn run<F: Files, O: Sink>(alloc: Global, words: &[String], files: &mut F, out: &mut O) -> Status
-    ensures { IsRun (request_of_call words.now) result files.old files.new
+    ensures follows { IsRun (map string_bytes words.now) result
         (F.shown files.old, O.shown out.old) (F.shown files.new, O.shown out.new) }
+    ensures uncalled { CallsNoFile (plan_of (map string_bytes words.now))
+        → files.new ≡ files.old }
+    ensures promised { IsPromised words.now result (F.shown files.old) (F.shown files.new) }
 {
     run_watched(alloc, words, files, out, &Quiet)
 }
@@ -118,8 +128,11 @@ pub fn run_watched<F: Files, O: Sink, W: Watch>(
     out: &mut O,
     watch: &W,
 ) -> Status
-    ensures { IsRun (request_of_call words.now) result files.old files.new
+    ensures follows { IsRun (map string_bytes words.now) result
         (F.shown files.old, O.shown out.old) (F.shown files.new, O.shown out.new) }
+    ensures uncalled { CallsNoFile (plan_of (map string_bytes words.now))
+        → files.new ≡ files.old }
+    ensures promised { IsPromised words.now result (F.shown files.old) (F.shown files.new) }
 {
     match command(words) {
         None => answer(out, USAGE, Status::Usage, watch),

@@ -1,7 +1,7 @@
 //! `totals`: the totals of a dictionary by a packed table.
-ghost use Rattle.pg_top.specs.totals.TotalsRule.{totals_rule};
-ghost use Rattle.pg_steps.specs.Inside.ends.BuiltTexts.{Builds};
-ghost use Rattle.pg_words.specs.Inside.CommandRequests.{totals_request_of};
+ghost use Rattle.pg_steps.specs.Inside.Steps.{Begins};
+ghost use Rattle.pg_steps.specs.Inside.Texts.{ending_of};
+ghost use Rattle.pg_top.specs.Totalling.{totalled};
 
 mod table;
 
@@ -19,8 +19,8 @@ pub fn total_files<'a, F: Files, W: Watch>(
     files: &mut F,
     watch: &W,
 ) -> Result<BuiltTexts<'a>, Stop<'a>>
-    ensures { Builds (totals_rule (totals_request_of names.now))
-        (F.shown files.old) (F.shown files.new) result }
+    ensures { Begins (totalled names.now.dict.now names.now.translate.now names.now.table.now)
+        result ending_of (F.shown files.old) (F.shown files.new) }
 {
     let letters = read_table(alloc, names.translate, files, watch)?;
     let dictionary = read_dictionary(alloc, &letters, names.dict, files, watch)?;

@@ -2,7 +2,6 @@
 pub mod BlockedBases
 pub mod Bounds
 pub mod Fit
-pub mod FreeList
 pub mod CellRows
 pub mod SetFit
 pub mod BitSets

@@ -61,9 +61,21 @@ fn tried_up_to(was: usize, sought: usize, low: usize) -> usize
     if 0 < was && sought <= low { was + 1 } else { 0 }
 }
 
+// The greatest bound of the sign and those of the slots. Below it they may stand at no base.
+fn greatest_bound<V: Copy>(store: &Store<V>, slots: &[Slot<Member<V>>], sign: Sign) -> usize
+    ensures { (b : ℕ) → 0 < b → b < result →
+        fits_row store.now (sign ∷ slot_signs slots.now) b ≡ false }
+{
+    let mut bound = store.bound(sign);
+    for slot in slots {
+        bound = bound.max(store.bound(slot.sign));
+    }
+    bound
+}
+
 // The least base from `low` on at which the sign and those of the slots may stand; at `room` they
-// may. It is sought from the greatest of `low`, `tried` and the bound of the sign on: below `tried`
-// no base fits. A search for one sign from its bound on raises the bound.
+// may. It is sought from the greatest of `low`, `tried` and the bounds of the signs on: below
+// `tried` no base fits. A search for one sign from its bound on raises the bound.
 fn least_base<V: Copy>(
     store: &mut Store<V>,
     slots: &[Slot<Member<V>>],
@@ -80,9 +92,10 @@ fn least_base<V: Copy>(
     ensures room { result ≤ room }
     ensures same { store.new ≡ store.old }
 {
-    let bound = store.bound(sign);
-    let from = low.max(tried);
-    let base = store.find_base(slots, sign, from.max(bound), room);
+    let bound = greatest_bound(store, slots, sign);
+    let known = tried.max(bound);
+    let from = low.max(known);
+    let base = store.find_base(slots, sign, from, room);
     if slots.is_empty() && low <= bound.max(1) {
         store.raise_bound(sign, base);
     }

@@ -1,5 +1,5 @@
 //! A set of indices of cells.
-ghost use Rattle.std.specs.Prelude.{◌≡◌, ◌<◌, ◌≤◌, ◌+◌, ◌||◌, ◌&&◌, ◌==◌, ℕ, not, false, OnOk};
+ghost use Rattle.std.specs.Prelude.{◌≡◌, ◌<◌, ◌≤◌, ◌+◌, ◌*◌, ◌/◌, ◌^◌, ◌||◌, ◌&&◌, ◌==◌, ℕ, max, not, true, false, OnOk};
 ghost use Rattle.std.specs.Int.{bit_at};
 
 use pg_types::bits::{NUMBER_BITS, bits_from, clear, set};
@@ -18,6 +18,7 @@ impl BitSet {
     /// The empty set, which has no room. It takes no memory.
     pub fn empty(alloc: Global) -> BitSet
         ensures none { (i : ℕ) → has_index result i ≡ false }
+        ensures room { room_of result ≡ 0 }
     {
         BitSet {
             bits: Vec::new(alloc),
@@ -28,6 +29,7 @@ impl BitSet {
     pub fn make_room(&mut self, count: usize) -> Result<(), AllocError>
         ensures room { OnOk result (count ≤ room_of self.new) }
         ensures grows { room_of self.old ≤ room_of self.new }
+        ensures within { room_of self.new ≤ max (room_of self.old) (64 * (count / 64 + 1)) }
         ensures same { (i : ℕ) → has_index self.new i ≡ has_index self.old i }
     {
         let len = count / NUMBER_BITS + 1;
@@ -72,5 +74,24 @@ impl BitSet {
         ensures { (j : ℕ) → j < 64 → (bit_at result j == 1) ≡ has_index self.now (index + j) }
     {
         bits_from(&self.bits, index)
+    }
+    /// The first index from `index` on that is not in the set. `bound` is one that is not.
+    #[inline]
+    pub fn first_absent(&self, index: usize, bound: usize) -> usize
+        requires from { index ≤ bound }
+        requires small { bound < 2 ^ 60 }
+        requires absent { has_index self.now bound ≡ false }
+        ensures from { index ≤ result }
+        ensures bound { result ≤ bound }
+        ensures absent { has_index self.now result ≡ false }
+        ensures before { (i : ℕ) → index ≤ i → i < result → has_index self.now i ≡ true }
+    {
+        let mut at = index;
+        let mut has = self.from(at);
+        while has == u64::MAX {
+            at += NUMBER_BITS;
+            has = self.from(at);
+        }
+        at + has.trailing_ones() as usize
     }
 }

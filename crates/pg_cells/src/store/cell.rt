@@ -1,11 +1,11 @@
 //! One cell, and the reading and writing of its parts.
-ghost use Rattle.std.specs.Prelude.{◌≡◌, ◌≢◌, ◌<◌, ◌+◌, ◌*◌, ◌%◌, length, nat_eq, slice_get, set, Some};
-ghost use Rattle.pg_cells.specs.Inside.store.CellRows.{linked_row, FitsCell, SaysTaken, base_in, link_in, with_before, with_after, with_child, with_value, with_base, with_taken, with_free, sign_at, IsFree, before_at, after_at, child_at, base_at};
+ghost use Rattle.std.specs.Prelude.{◌≡◌, ◌≢◌, ◌<◌, ◌+◌, ◌*◌, ◌%◌, length, nat_eq, slice_get, Some};
+ghost use Rattle.pg_cells.specs.Inside.store.CellRows.{row_of, FitsCell, SaysTaken, base_in, link_in, with_child, with_value, with_base, with_taken, with_free, sign_at, child_at};
 
 use crate::store::member::Member;
 use pg_types::Sign;
 
-/// There are fewer cells than this, so that a cell has room for the index of another.
+/// There are fewer cells than this, so that a cell has room for the base of its child family.
 pub const CELLS_END: usize = 1 << 29;
 
 /// Each sign is below this. So many numbers fit where a cell keeps a sign.
@@ -28,24 +28,20 @@ pub const FIRST_COUNT: u32 = 1 << 9;
 /// first sign.
 pub const BASE_AT: u32 = 1 << 2;
 
-/// In `links` the index of another cell stands from this bit on.
+/// In `links` the base of the child family stands from this bit on.
 pub const LINK_AT: u32 = 1 << 3;
 
 /// A cell. Its parts beside the value are packed into two numbers of 32 bits, so that many cells
 /// fit in the cache.
-///
-/// A free cell has no next and no first sign. The number of the free cell before it stands there.
 #[derive(Clone, Copy)]
 pub struct Cell<V> {
     /// The value of the string that ends with this cell.
     pub value: V,
     /// Of a taken cell: a bit that is 1, its sign less one, the next sign of its family and the
-    /// lower part of the first sign below, 0 for none. Of a free cell: a bit that is 0, and the
-    /// free cell before it.
+    /// lower part of the first sign below, 0 for none. Of a free cell 0.
     pub signs: u32,
     /// The upper part of the first sign, whether the index of the cell is the base of a family, and
-    /// the index of another cell. In a taken cell that is the base of its child family, in a free
-    /// cell the free cell after it; 0 for none.
+    /// the base of the child family, 0 for none.
     pub links: u32,
 }
 
@@ -67,10 +63,10 @@ fn links_with_base(links: u32, is_base: bool) -> u32
     if is_base { others + BASE_AT } else { others }
 }
 
-/// Whether a cell is taken. The search along the free cells asks this of each cell it looks at.
+/// Whether a cell is taken.
 pub fn is_taken<V: Copy>(cells: &[Cell<V>], cell: usize) -> bool
     requires { cell < length cells.now }
-    ensures { SaysTaken (linked_row cells.now).row cell result }
+    ensures { SaysTaken (row_of cells.now) cell result }
 {
     cells[cell].signs % SIGN_AT == 1
 }
@@ -80,24 +76,16 @@ pub fn is_taken<V: Copy>(cells: &[Cell<V>], cell: usize) -> bool
 pub fn has_sign<V: Copy>(cells: &[Cell<V>], cell: usize, sign: Sign) -> bool
     requires cell { cell < length cells.now }
     requires sign { sign ≢ 0 }
-    ensures { result ≡ nat_eq (sign_at (linked_row cells.now).row cell) sign }
+    ensures { result ≡ nat_eq (sign_at (row_of cells.now) cell) sign }
 {
     cells[cell].signs % NEXT_AT == 1 + (sign as u32 - 1) * SIGN_AT
-}
-
-/// Whether the index of a cell is the base of a family.
-pub fn is_base_of<V: Copy>(cells: &[Cell<V>], cell: usize) -> bool
-    requires { cell < length cells.now }
-    ensures { result ≡ base_at (linked_row cells.now).row cell }
-{
-    cells[cell].links / BASE_AT % 2 == 1
 }
 
 /// The value of a taken cell, with the next sign of its family and the first sign below its string.
 pub fn value_of<V: Copy>(cells: &[Cell<V>], cell: usize) -> Member<V>
     requires cell { cell < length cells.now }
-    requires taken { sign_at (linked_row cells.now).row cell ≢ 0 }
-    ensures value { slice_get (linked_row cells.now).row.values cell ≡ Some result }
+    requires taken { sign_at (row_of cells.now) cell ≢ 0 }
+    ensures value { slice_get (row_of cells.now).values cell ≡ Some result }
     ensures fits { FitsCell result }
 {
     let taken = cells[cell];
@@ -111,60 +99,18 @@ pub fn value_of<V: Copy>(cells: &[Cell<V>], cell: usize) -> Member<V>
 /// The base of the child family of a taken cell, 0 for none.
 pub fn child_of<V: Copy>(cells: &[Cell<V>], cell: usize) -> usize
     requires cell { cell < length cells.now }
-    requires taken { sign_at (linked_row cells.now).row cell ≢ 0 }
-    ensures { result ≡ child_at (linked_row cells.now).row cell }
+    requires taken { sign_at (row_of cells.now) cell ≢ 0 }
+    ensures { result ≡ child_at (row_of cells.now) cell }
 {
     (cells[cell].links / LINK_AT) as usize
-}
-
-/// The free cell before a free cell.
-pub fn before_of<V: Copy>(cells: &[Cell<V>], cell: usize) -> usize
-    requires cell { cell < length cells.now }
-    requires free { IsFree (linked_row cells.now).row cell }
-    ensures { result ≡ before_at (linked_row cells.now) cell }
-{
-    (cells[cell].signs / SIGN_AT) as usize
-}
-
-/// The free cell after a free cell, 0 for none. In a taken cell these bits are the base of its
-/// child family.
-pub fn after_of<V: Copy>(cells: &[Cell<V>], cell: usize) -> usize
-    requires { cell < length cells.now }
-    ensures { result ≡ after_at (linked_row cells.now) cell }
-{
-    (cells[cell].links / LINK_AT) as usize
-}
-
-/// Sets the free cell before a free cell.
-pub fn set_before<V: Copy>(cells: &mut [Cell<V>], cell: usize, before: usize)
-    requires cell { cell < length cells.old }
-    requires free { IsFree (linked_row cells.old).row cell }
-    requires before { before < CELLS_END }
-    ensures { linked_row cells.new ≡ with_before (linked_row cells.old) cell before }
-{
-    cells[cell].signs = before as u32 * SIGN_AT;
-}
-
-/// Sets the free cell after a free cell, 0 for none.
-pub fn set_after<V: Copy>(cells: &mut [Cell<V>], cell: usize, after: usize)
-    requires cell { cell < length cells.old }
-    requires free { IsFree (linked_row cells.old).row cell }
-    requires after { after < CELLS_END }
-    ensures { linked_row cells.new ≡ with_after (linked_row cells.old) cell after }
-{
-    let free = &mut cells[cell];
-    free.links = after as u32 * LINK_AT + free.links % LINK_AT;
 }
 
 /// Sets the base of the child family of a taken cell, 0 for none.
 pub fn set_child<V: Copy>(cells: &mut [Cell<V>], cell: usize, child: usize)
     requires cell { cell < length cells.old }
-    requires taken { sign_at (linked_row cells.old).row cell ≢ 0 }
+    requires taken { sign_at (row_of cells.old) cell ≢ 0 }
     requires child { child < CELLS_END }
-    ensures { linked_row cells.new ≡ record (linked_row cells.old) {
-      row = with_child (linked_row cells.old).row cell child;
-      afters = set (linked_row cells.old).afters cell child;
-    } }
+    ensures { row_of cells.new ≡ with_child (row_of cells.old) cell child }
 {
     let taken = &mut cells[cell];
     taken.links = child as u32 * LINK_AT + taken.links % LINK_AT;
@@ -173,12 +119,9 @@ pub fn set_child<V: Copy>(cells: &mut [Cell<V>], cell: usize, child: usize)
 /// Sets the value of a taken cell, with the next and the first sign.
 pub fn set_value<V: Copy>(cells: &mut [Cell<V>], cell: usize, value: Member<V>)
     requires cell { cell < length cells.old }
-    requires taken { sign_at (linked_row cells.old).row cell ≢ 0 }
+    requires taken { sign_at (row_of cells.old) cell ≢ 0 }
     requires fits { FitsCell value }
-    ensures { linked_row cells.new ≡ record (linked_row cells.old) {
-      row = with_value (linked_row cells.old).row cell value;
-      befores = set (linked_row cells.old).befores cell 0;
-    } }
+    ensures { row_of cells.new ≡ with_value (row_of cells.old) cell value }
 {
     let taken = &mut cells[cell];
     taken.value = value.value;
@@ -189,10 +132,7 @@ pub fn set_value<V: Copy>(cells: &mut [Cell<V>], cell: usize, value: Member<V>)
 /// Sets whether the index of a cell is the base of a family.
 pub fn set_base<V: Copy>(cells: &mut [Cell<V>], cell: usize, is_base: bool)
     requires { cell < length cells.old }
-    ensures { linked_row cells.new
-        ≡ record (linked_row cells.old) {
-          row = with_base (linked_row cells.old).row cell is_base;
-        } }
+    ensures { row_of cells.new ≡ with_base (row_of cells.old) cell is_base }
 {
     let held = &mut cells[cell];
     held.links = links_with_base(held.links, is_base);
@@ -212,11 +152,7 @@ pub fn set_taken<V: Copy>(
     requires sign_fits { sign < SIGN_COUNT }
     requires fits { FitsCell value }
     requires child { child < CELLS_END }
-    ensures { linked_row cells.new ≡ record (linked_row cells.old) {
-      row = with_taken (linked_row cells.old).row cell sign value child;
-      befores = set (linked_row cells.old).befores cell 0;
-      afters = set (linked_row cells.old).afters cell child;
-    } }
+    ensures { row_of cells.new ≡ with_taken (row_of cells.old) cell sign value child }
 {
     let taken = &mut cells[cell];
     taken.value = value.value;
@@ -226,19 +162,12 @@ pub fn set_taken<V: Copy>(
         + value.first as u32 / FIRST_COUNT;
 }
 
-/// Makes a cell free. In the list it then stands between `before` and `after`. Whether its index is
-/// a base stays as it is.
-pub fn set_free<V: Copy>(cells: &mut [Cell<V>], cell: usize, before: usize, after: usize)
-    requires cell { cell < length cells.old }
-    requires before { before < CELLS_END }
-    requires after { after < CELLS_END }
-    ensures { linked_row cells.new ≡ record {
-      row = with_free (linked_row cells.old).row cell;
-      befores = set (linked_row cells.old).befores cell before;
-      afters = set (linked_row cells.old).afters cell after;
-    } }
+/// Makes a cell free. Whether its index is a base stays as it is.
+pub fn set_free<V: Copy>(cells: &mut [Cell<V>], cell: usize)
+    requires { cell < length cells.old }
+    ensures { row_of cells.new ≡ with_free (row_of cells.old) cell }
 {
     let free = &mut cells[cell];
-    free.signs = before as u32 * SIGN_AT;
-    free.links = after as u32 * LINK_AT + free.links % LINK_AT;
+    free.signs = 0;
+    free.links %= LINK_AT;
 }

@@ -1,10 +1,12 @@
 //! The candidates that come next, looked at together.
 ghost use Rattle.std.specs.Prelude.{◌≡◌, ℕ, ◌+◌, ◌<◌, ◌≤◌, length, slice_get, Some, IfOk, OnOk};
 ghost use Rattle.pg_driver.specs.declared.choices.look_ahead.SeenCandidate.{SeenCandidate};
-ghost use Rattle.pg_driver.specs.Inside.choices.LookAhead.{IsReadAhead, AreSeen, AreThere};
+ghost use Rattle.pg_driver.specs.Inside.choices.LookAhead.{AreSeen, AreThere, FitCursors, IsReadAhead};
+ghost use Rattle.pg_starts.specs.Inside.StartCountings.{AreCounting, windows_in};
 
-use pg_select::{Choice, Engine};
-use pg_types::Cursor;
+use pg_select::Choice;
+use pg_starts::StartCounts;
+use pg_types::{Cursor, Sign};
 use std::alloc::AllocError;
 
 /// So many candidates are looked at together.
@@ -19,26 +21,29 @@ pub struct SeenCandidate {
     pub window: Cursor,
 }
 
-/// Looks at the candidates with these numbers. Their windows were counted far apart, so each stands
-/// elsewhere in memory. Where they are read together, the processor fetches them at the same time.
-fn look_at<E: Engine>(
-    engine: &E,
+/// Looks at the candidates with these numbers. Their windows stand far apart among the signs. Where
+/// they are read together, the processor fetches them at the same time.
+fn look_at(
+    signs: &[Sign],
+    counts: &StartCounts,
     fates: &[Choice],
     numbers: &[u32],
     seen: &mut Vec<SeenCandidate>,
 ) -> Result<(), AllocError>
-    requires there { AreThere (E.meaning engine.now).windows numbers.now }
-    requires fates { length fates.now ≡ length (E.meaning engine.now).windows }
+    requires counting { AreCounting signs.now counts.now }
+    requires cursors { FitCursors (windows_in signs.now counts.now) }
+    requires there { AreThere (windows_in signs.now counts.now) numbers.now }
+    requires fates { length fates.now ≡ length (windows_in signs.now counts.now) }
     ensures size { OnOk result (length seen.new.items ≡ length numbers.now) }
     ensures each { OnOk result ((k n : ℕ) (c : SeenCandidate) → slice_get numbers.now k ≡ Some n
         → slice_get seen.new.items k ≡ Some c
-        → IsReadAhead fates.now (E.meaning engine.now).windows n c) }
+        → IsReadAhead fates.now (windows_in signs.now counts.now) n c) }
 {
     seen.clear();
     'numbers: for number in numbers {
         let fate = fates[*number as usize];
         let mut window = Cursor::start();
-        engine.seek(*number, &mut window);
+        window.set(counts.window(signs, *number));
         seen.push(SeenCandidate { fate, window })?;
     }
     Ok(())
@@ -46,28 +51,32 @@ fn look_at<E: Engine>(
 
 /// Fills `seen` from index `k` of the order on, unless it has that candidate. `from` is the index
 /// of the first in `seen`; the answer is that index afterwards.
-pub fn look_ahead<E: Engine>(
-    engine: &E,
+pub fn look_ahead(
+    signs: &[Sign],
+    counts: &StartCounts,
     fates: &[Choice],
     order: &[u32],
     k: usize,
     from: usize,
     seen: &mut Vec<SeenCandidate>,
 ) -> Result<usize, AllocError>
-    requires there { AreThere (E.meaning engine.now).windows order.now }
-    requires fates { length fates.now ≡ length (E.meaning engine.now).windows }
+    requires counting { AreCounting signs.now counts.now }
+    requires cursors { FitCursors (windows_in signs.now counts.now) }
+    requires there { AreThere (windows_in signs.now counts.now) order.now }
+    requires fates { length fates.now ≡ length (windows_in signs.now counts.now) }
     requires within { k < length order.now }
     requires from { from ≤ k }
-    requires seen { AreSeen fates.now (E.meaning engine.now).windows order.now from seen.old.items }
+    requires seen { AreSeen fates.now (windows_in signs.now counts.now) order.now from
+        seen.old.items }
     ensures from { IfOk result (λ first. first ≤ k) }
     ensures within { IfOk result (λ first. k < first + length seen.new.items) }
     ensures seen { IfOk result (λ first.
-        AreSeen fates.now (E.meaning engine.now).windows order.now first seen.new.items) }
+        AreSeen fates.now (windows_in signs.now counts.now) order.now first seen.new.items) }
 {
     if k < from + seen.len() {
         return Ok(from);
     }
     let end = order.len().min(k + BLOCK);
-    look_at(engine, fates, &order[k..end], seen)?;
+    look_at(signs, counts, fates, &order[k..end], seen)?;
     Ok(k)
 }

@@ -6,7 +6,7 @@ ghost use Rattle.std.specs.Option.{option_map_or};
 ghost use Rattle.pg_types.specs.declared.limits.TheConstants.{FILE_MAX, WORD_LETTERS_MAX, WEIGHT_MAX};
 ghost use Rattle.pg_types.specs.declared.parameters.LevelParams.{LevelParams};
 ghost use Rattle.pg_types.specs.Inside.counting.Counts.{Counts};
-ghost use Rattle.pg_types.specs.Inside.counting.NumberedWindows.{AreNumbered, Windows};
+ghost use Rattle.pg_types.specs.Inside.counting.NumberedWindows.{Windows};
 ghost use Rattle.pg_dict.specs.Inside.SoundWords.{IsWord};
 ghost use Rattle.pg_dict.specs.Inside.LentWords.{lent_word};
 ghost use Rattle.pg_patterns.specs.Values.{Patterns};
@@ -21,7 +21,7 @@ ghost use Rattle.pg_driver.specs.Inside.level.PassWindows.{AreFates, HaveNumbers
 ghost use Rattle.pg_driver.specs.Inside.choices.Fates.{chooses};
 ghost use Rattle.pg_driver.specs.Inside.counting.WordLevels.{TookChosen, chosen_weights, with_chosen};
 
-use crate::counting::open_passes::{fate_of, is_good};
+use crate::counting::open_passes::is_good;
 use crate::counting::positions::counts_as;
 use crate::pass_windows::WordPosition;
 use pg_dict::{Dictionary, WordRef};
@@ -104,7 +104,7 @@ pub fn list_above(
 fn is_chosen_by(fates: &[Choice], number: u32) -> bool
     ensures { result ≡ option_map_or chooses (slice_get fates.now number) false }
 {
-    matches!(fate_of(fates, number), Some(Choice::Chosen))
+    matches!(fates.get(number as usize).copied(), Some(Choice::Chosen))
 }
 
 /// The sums with the weight of one more listed position added, where its window of a pass was
@@ -120,7 +120,7 @@ fn add_kept(
     requires placed { IsInWord dictionary.now position }
     requires few { length fates.now ≤ NO_NUMBER }
     requires room { kept.good + kept.bad + WEIGHT_MAX < 2 ^ 64 }
-    ensures value { (params : LevelParams) (counts : Counts) (ws : Windows) → AreNumbered ws counts
+    ensures value { (params : LevelParams) (counts : Counts) (ws : Windows)
         → AreFates params counts ws fates.now
         → IsNumbered pass (is_counted_at pass counts) dictionary.now ws position number
         → result ≡ with_chosen kept
@@ -159,7 +159,7 @@ pub fn kept_above(
     requires above { length above.now ≤ FILE_MAX }
     requires fates { length fates.now ≤ NO_NUMBER }
     requires size { length numbers.now ≡ length above.now }
-    ensures { (params : LevelParams) (counts : Counts) (ws : Windows) → AreNumbered ws counts
+    ensures { (params : LevelParams) (counts : Counts) (ws : Windows)
         → AreFates params counts ws fates.now
         → HaveNumbers pass (is_counted_at pass counts) dictionary.now ws above.now numbers.now
         → result ≡ chosen_weights params pass counts dictionary.now above.now }

@@ -1,23 +1,23 @@
 //! A pass over the open positions of its level: the counting of its windows, and the closing of
 //! dots after its choices.
-ghost use Rattle.std.specs.Prelude.{◌≡◌, ◌≢◌, ◌≤◌, ◌<◌, not, if◌then◌else◌, [], ℕ, Bool, length, slice_get, sum_by, All, IfOk, OnOk};
+ghost use Rattle.std.specs.Prelude.{◌≡◌, ◌≢◌, ◌≤◌, ◌<◌, not, if◌then◌else◌, ℕ, Bool, length, fold, sum_by, All};
 ghost use Rattle.std.specs.List.{flat_map};
 ghost use Rattle.pg_dots.specs.Inside.Dots.{is_closed, position_count};
 ghost use Rattle.pg_types.specs.declared.limits.TheConstants.{FILE_MAX};
-ghost use Rattle.pg_dict.specs.Inside.SoundWords.{IsWord, SignsAtMost, letter_count};
+ghost use Rattle.pg_dict.specs.Inside.SoundWords.{IsWord, letter_count};
+ghost use Rattle.pg_dict.specs.Inside.Store.{all_signs};
 ghost use Rattle.pg_select.specs.Statuses.{is_odd};
-ghost use Rattle.pg_driver.specs.Inside.counting.Counting.{meaning_after_counting, HasRoom, TookRoom};
+ghost use Rattle.pg_select.specs.Inside.engine.Meanings.{with_position};
+ghost use Rattle.pg_starts.specs.Inside.StartCountings.{AreCounting, counts_in, windows_in};
+ghost use Rattle.pg_driver.specs.Inside.counting.Counting.{AreNumbersFor, HasRoom};
 ghost use Rattle.pg_driver.specs.Inside.level.States.{IsPass};
-ghost use Rattle.pg_driver.specs.Inside.counting.OpenSigns.{ClosesBy, closed_by, open_word_positions, open_signs, position_from, sign_count};
+ghost use Rattle.pg_driver.specs.Inside.counting.OpenSigns.{ClosesBy, HasFate, closed_by, open_at, open_word_positions, open_signs, position_from, sign_count};
 ghost use Rattle.pg_driver.specs.Inside.counting.OpenPositions.{counted_of};
-ghost use Rattle.pg_driver.specs.Inside.level.PassWindows.{HaveNumbers, IsNumbered, counts_at};
 
-use crate::counting::positions::window_at;
-use crate::pass_windows::NO_NUMBER;
 use pg_dict::Dictionary;
 use pg_dots::OpenDots;
-use pg_select::{Choice, Engine, Pass};
-use std::alloc::AllocError;
+use pg_select::{Choice, Pass};
+use pg_starts::StartCounts;
 
 /// Whether a position with or without a hyphen counts as good at a level, where it counts.
 pub fn is_good(level: u8, hyphen: bool) -> bool
@@ -27,89 +27,90 @@ pub fn is_good(level: u8, hyphen: bool) -> bool
 }
 
 /// Counts the window at a sign at which the dot of the pass is open, where it fits in the sign's
-/// word, and gives its number. No word is looked up.
-fn count_sign<E: Engine>(
-    engine: &mut E,
-    dictionary: &Dictionary,
-    pass: Pass,
-    sign: usize,
-) -> Result<u32, AllocError>
+/// word. No word is looked up.
+fn count_sign(dictionary: &Dictionary, pass: Pass, sign: usize, counts: &mut StartCounts)
     requires ranges { IsPass pass }
-    requires pass { (E.meaning engine.old).pass ≡ pass }
-    requires signs { SignsAtMost (E.meaning engine.old).signs dictionary.now }
     requires words { All IsWord dictionary.now }
     requires letters { sum_by letter_count dictionary.now ≤ FILE_MAX }
     requires within { sign < sign_count dictionary.now }
-    requires room { HasRoom (E.meaning engine.old).counts 1 }
-    ensures ok { OnOk result (E.meaning engine.new
-        ≡ meaning_after_counting (E.meaning engine.old)
-        (counted_of pass dictionary.now
-        (position_from 0 dictionary.now sign))) }
-    ensures took { OnOk result
-        (TookRoom (E.meaning engine.old).counts (E.meaning engine.new).counts 1) }
-    ensures number { IfOk result (λ n. IsNumbered pass (counts_at pass) dictionary.now
-        (E.meaning engine.new).windows (position_from 0 dictionary.now sign) n) }
-    ensures signs { (E.meaning engine.new).signs ≡ (E.meaning engine.old).signs }
+    requires counting { AreCounting (all_signs dictionary.now) counts.old }
+    requires numbers { AreNumbersFor dictionary.now pass.len (open_at pass.dot sign)
+        counts.old.numbers }
+    requires room { HasRoom (counts_in (all_signs dictionary.now) counts.old) 1 }
+    ensures numbers { counts.new.numbers ≡ counts.old.numbers }
+    ensures counting { AreCounting (all_signs dictionary.now) counts.new }
+    ensures counts { counts_in (all_signs dictionary.now) counts.new
+        ≡ fold with_position (counts_in (all_signs dictionary.now) counts.old)
+        (counted_of pass dictionary.now (position_from 0 dictionary.now sign)) }
 {
-    let sites = dictionary.all_sites();
     if !dictionary.fits_around(sign, pass.dot, pass.len) {
-        return Ok(NO_NUMBER);
+        return;
     }
+    let sites = dictionary.all_sites();
     let site = sites[sign];
     let signs = dictionary.all_signs();
-    let window = window_at(pass, signs, sign);
     let good = is_good(pass.level, site.has_hyphen());
     let weights = dictionary.all_weights();
-    engine.count_numbered(window, good, weights[sign])
+    let start = sign - pass.dot as usize;
+    counts.add(signs, start, good, u64::from(weights[sign]));
 }
 
-/// Counts, in a pass that has begun, the windows at the positions where its dot is open, and lists
-/// their numbers.
+/// Counts, in a pass that has begun, the windows at the positions where its dot is open. It takes
+/// no memory.
 #[inline(never)]
-pub fn count_open<E: Engine>(
-    engine: &mut E,
-    dictionary: &Dictionary,
-    pass: Pass,
-    dots: &OpenDots,
-    numbers: &mut Vec<u32>,
-) -> Result<(), AllocError>
+pub fn count_open(dictionary: &Dictionary, pass: Pass, dots: &OpenDots, counts: &mut StartCounts)
     requires ranges { IsPass pass }
-    requires pass { (E.meaning engine.old).pass ≡ pass }
-    requires signs { SignsAtMost (E.meaning engine.old).signs dictionary.now }
     requires words { All IsWord dictionary.now }
     requires letters { sum_by letter_count dictionary.now ≤ FILE_MAX }
     requires reached { pass.dot < dots.now.reached }
     requires size { sign_count dictionary.now ≤ position_count dots.now }
-    requires room { HasRoom (E.meaning engine.old).counts
+    requires counting { AreCounting (all_signs dictionary.now) counts.old }
+    requires numbers { AreNumbersFor dictionary.now pass.len
+        (λ d s. not (is_closed dots.now d s)) counts.old.numbers }
+    requires room { HasRoom (counts_in (all_signs dictionary.now) counts.old)
         (length (open_signs (is_closed dots.now pass.dot) 0 (sign_count dictionary.now))) }
-    requires none { numbers.old.items ≡ [] }
-    ensures ok { OnOk result (E.meaning engine.new
-        ≡ meaning_after_counting (E.meaning engine.old)
+    ensures numbers { counts.new.numbers ≡ counts.old.numbers }
+    ensures counting { AreCounting (all_signs dictionary.now) counts.new }
+    ensures counts { counts_in (all_signs dictionary.now) counts.new
+        ≡ fold with_position (counts_in (all_signs dictionary.now) counts.old)
         (flat_map (counted_of pass dictionary.now)
-        (open_word_positions (is_closed dots.now pass.dot) dictionary.now))) }
-    ensures room { OnOk result (HasRoom (E.meaning engine.new).counts 0) }
-    ensures numbers { OnOk result
-        (HaveNumbers pass (counts_at pass) dictionary.now (E.meaning engine.new).windows
-        (open_word_positions (is_closed dots.now pass.dot) dictionary.now) numbers.new.items) }
-    ensures signs { (E.meaning engine.new).signs ≡ (E.meaning engine.old).signs }
+        (open_word_positions (is_closed dots.now pass.dot) dictionary.now)) }
+    ensures room { HasRoom (counts_in (all_signs dictionary.now) counts.new) 0 }
 {
     let signs = dictionary.all_signs();
     let end = signs.len();
     let mut walk = dots.walk(pass.dot);
     let mut next = dots.next_open(pass.dot, &mut walk);
     'signs: while next < end {
-        let number = count_sign(engine, dictionary, pass, next)?;
-        numbers.push(number)?;
+        count_sign(dictionary, pass, next, counts);
         next = dots.next_open(pass.dot, &mut walk);
     }
-    Ok(())
 }
 
-/// What became of the window with this number; `None` for `NO_NUMBER`.
-pub fn fate_of(fates: &[Choice], number: u32) -> Option<Choice>
-    ensures { result ≡ slice_get fates.now number }
+/// What became of the window at a sign at which the dot of the pass is open; `None` where it does
+/// not fit.
+fn fate_of(
+    dictionary: &Dictionary,
+    pass: Pass,
+    sign: usize,
+    counts: &StartCounts,
+    fates: &[Choice],
+) -> Option<Choice>
+    requires ranges { IsPass pass }
+    requires within { sign < sign_count dictionary.now }
+    requires counting { AreCounting (all_signs dictionary.now) counts.now }
+    requires numbers { AreNumbersFor dictionary.now pass.len (open_at pass.dot sign)
+        counts.now.numbers }
+    requires fates { length fates.now ≡ length (windows_in (all_signs dictionary.now) counts.now) }
+    ensures { HasFate pass dictionary.now
+        (windows_in (all_signs dictionary.now) counts.now) fates.now sign result }
 {
-    fates.get(number as usize).copied()
+    if !dictionary.fits_around(sign, pass.dot, pass.len) {
+        return None;
+    }
+    let signs = dictionary.all_signs();
+    let number = counts.number(signs, sign - pass.dot as usize);
+    Some(fates[number as usize])
 }
 
 /// Closes dots at a position at which the dot of a pass is open, by what became of its window.
@@ -131,21 +132,35 @@ fn close_at(dots: &mut OpenDots, dot: u8, sign: usize, fate: Option<Choice>)
     }
 }
 
-/// Closes dots after the choices of a pass, by the numbers of the windows of the positions at which
-/// its dot is open. It takes no memory. Only the contract reads `end`: how many signs there are.
-pub fn close_dots(dot: u8, fates: &[Choice], numbers: &[u32], end: usize, dots: &mut OpenDots)
-    requires dot { dot < dots.old.reached }
-    requires size { end ≤ position_count dots.old }
-    requires numbers { length numbers.now ≡ length (open_signs (is_closed dots.old dot) 0 end) }
+/// Closes dots after the choices of a pass, by what became of the windows of the positions at which
+/// its dot is open. It takes no memory.
+pub fn close_dots(
+    dictionary: &Dictionary,
+    pass: Pass,
+    counts: &StartCounts,
+    fates: &[Choice],
+    dots: &mut OpenDots,
+)
+    requires ranges { IsPass pass }
+    requires dot { pass.dot < dots.old.reached }
+    requires size { sign_count dictionary.now ≤ position_count dots.old }
+    requires counting { AreCounting (all_signs dictionary.now) counts.now }
+    requires numbers { AreNumbersFor dictionary.now pass.len
+        (λ d s. not (is_closed dots.old d s)) counts.now.numbers }
+    requires fates { length fates.now ≡ length (windows_in (all_signs dictionary.now) counts.now) }
     ensures size { position_count dots.new ≡ position_count dots.old }
     ensures reached { dots.new.reached ≡ dots.old.reached }
-    ensures closed { (after : ℕ → ℕ → Bool) → ClosesBy after dot fates.now (is_closed dots.old)
-        (open_signs (is_closed dots.old dot) 0 end) numbers.now
-        → (d s : ℕ) → s < end → is_closed dots.new d s ≡ after d s }
+    ensures closed { (after : ℕ → ℕ → Bool) → ClosesBy after pass dictionary.now
+        (windows_in (all_signs dictionary.now) counts.now) fates.now (is_closed dots.old)
+        → (d s : ℕ) → s < sign_count dictionary.now → is_closed dots.new d s ≡ after d s }
 {
-    let mut walk = dots.walk(dot);
-    'numbers: for number in numbers {
-        let sign = dots.next_open(dot, &mut walk);
-        close_at(dots, dot, sign, fate_of(fates, *number));
+    let signs = dictionary.all_signs();
+    let end = signs.len();
+    let mut walk = dots.walk(pass.dot);
+    let mut next = dots.next_open(pass.dot, &mut walk);
+    'signs: while next < end {
+        let fate = fate_of(dictionary, pass, next, counts, fates);
+        close_at(dots, pass.dot, next, fate);
+        next = dots.next_open(pass.dot, &mut walk);
     }
 }

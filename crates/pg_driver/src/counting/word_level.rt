@@ -1,6 +1,8 @@
 //! A level in which each word is hyphenated in each pass. Its totals are carried from pass to pass.
 ghost use Rattle.std.specs.Prelude.{◌≡◌, [], false, true, IfOk, OnOk};
-ghost use Rattle.pg_types.specs.Inside.counting.NumberedWindows.{AreNumbered};
+ghost use Rattle.pg_dict.specs.Inside.Store.{all_signs};
+ghost use Rattle.pg_starts.specs.Inside.StartCountings.{AreCounting, counts_in, windows_in};
+ghost use Rattle.pg_driver.specs.Inside.counting.Counting.{AreNumbersFor};
 ghost use Rattle.pg_driver.specs.Inside.level.PassWindows.{HaveNumbers, is_counted_at};
 ghost use Rattle.pg_driver.specs.Inside.level.States.{HasBegun};
 ghost use Rattle.pg_driver.specs.Inside.records.RunAccounts.{known_of};
@@ -17,6 +19,7 @@ use crate::pass_windows::WordPosition;
 use pg_dict::Dictionary;
 use pg_select::marks::no_totals;
 use pg_select::{Engine, Pass};
+use pg_starts::StartCounts;
 use pg_translate::Table;
 use pg_types::Totals;
 use std::alloc::{AllocError, Global};
@@ -50,28 +53,32 @@ impl WordLevel {
     /// hyphenated once. Each listed position gets the number of its window, or `NO_NUMBER`.
     pub fn count_each_word<E: Engine>(
         &mut self,
-        engine: &mut E,
+        engine: &E,
         dictionary: &Dictionary,
         table: &Table,
         pass: Pass,
+        counts: &mut StartCounts,
         numbers: &mut Vec<u32>,
     ) -> Result<Totals, AllocError>
-        requires begun { HasBegun pass dictionary.now (E.meaning engine.old) }
+        requires begun { HasBegun pass dictionary.now (E.meaning engine.now) }
+        requires counting { AreCounting (all_signs dictionary.now) counts.old }
+        requires starts { AreNumbersFor dictionary.now pass.len (λ d s. true) counts.old.numbers }
+        requires fresh { counts_in (all_signs dictionary.now) counts.old ≡ [] }
         requires none { numbers.old.items ≡ [] }
         requires ready { IsWordsAt (source_of table.now dictionary.now) pass.level
-            (known_of (E.meaning engine.old))
+            (known_of (E.meaning engine.now))
             self.old }
+        ensures kept { counts.new.numbers ≡ counts.old.numbers }
+        ensures counting { AreCounting (all_signs dictionary.now) counts.new }
         ensures did { IfOk result (DidCount (source_of table.now dictionary.now) pass
-            (E.meaning engine.old) (E.meaning engine.new)) }
+            (E.meaning engine.now) (counts_in (all_signs dictionary.now) counts.new)) }
         ensures ready { OnOk result (IsWordsAt (source_of table.now dictionary.now) pass.level
-            (known_of (E.meaning engine.old)) self.new) }
+            (known_of (E.meaning engine.now)) self.new) }
         ensures counted { OnOk result (self.new.is_counted ≡ true) }
         ensures numbers { OnOk result
-            (AreNumbered (E.meaning engine.new).windows (E.meaning engine.new).counts
-            → HaveNumbers pass (is_counted_at pass (E.meaning engine.new).counts)
-            dictionary.now (E.meaning engine.new).windows
+            (HaveNumbers pass (is_counted_at pass (counts_in (all_signs dictionary.now) counts.new))
+            dictionary.now (windows_in (all_signs dictionary.now) counts.new)
             self.new.above.items numbers.new.items) }
-        ensures signs { (E.meaning engine.new).signs ≡ (E.meaning engine.old).signs }
     {
         let lists = !self.is_counted;
         let before = count_words(
@@ -81,6 +88,7 @@ impl WordLevel {
             pass,
             lists,
             &mut self.above,
+            counts,
             numbers,
         )?;
         self.is_counted = true;

@@ -172,3 +172,14 @@ pub(crate) fn command_of(name: &str) -> Option<&'static Command> {
 pub(crate) fn is_option(argument: &str) -> bool {
     argument == "--pattmp" || argument == "--cells"
 }
+
+/// Whether an argument is an option with `=` and its file behind it.
+pub(crate) fn is_joined(argument: &str) -> bool {
+    match argument.split_once('=') {
+        Some((front, _)) => is_option(front),
+        None => false,
+    }
+}
+
+/// What is said of an option with `=` and its file behind it.
+pub(crate) const JOINED: &str = "$0: $1 needs a blank in place of its =";

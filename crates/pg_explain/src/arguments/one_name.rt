@@ -5,7 +5,7 @@ use crate::arguments::mistake::{Mistake, about_arguments};
 
 /// How the argument with this index is called, and whether it names a file that is written; none
 /// where it is no name of a file.
-fn name_at<'a>(
+pub(crate) fn name_at<'a>(
     command: &Command,
     arguments: &'a [String],
     index: usize,

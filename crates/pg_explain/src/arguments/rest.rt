@@ -1,6 +1,6 @@
 //! The arguments that follow those which each call of a command has: options, or parameter files.
 
-use crate::arguments::forms::{Behind, Command, is_option};
+use crate::arguments::forms::{Behind, Command, JOINED, is_joined, is_option};
 use crate::arguments::mistake::{Mistake, about_arguments};
 use crate::arguments::slots::name_mistake;
 use pg_types::SETS_MAX;
@@ -15,6 +15,21 @@ fn is_among(arguments: &[String], argument: &str) -> bool {
     false
 }
 
+/// What is said of an argument that is one too many, and no option.
+fn more_sentence(argument: &str) -> &'static str {
+    if is_joined(argument) {
+        JOINED
+    } else if argument == "-pattmp" || argument == "-cells" {
+        "$0: $1 needs two dashes"
+    } else if argument.starts_with("--") {
+        "$0: $1 is no option of this command"
+    } else if argument.bytes().all(|byte| byte.is_ascii_digit()) {
+        "$0: $1 is one argument too many"
+    } else {
+        "$0: $1 is one argument too many; a name with a blank needs quotes"
+    }
+}
+
 /// What is said of the option with this index, where it is wrong or its name is missing.
 fn option_sentence(
     command: &Command,
@@ -24,7 +39,7 @@ fn option_sentence(
 ) -> Option<&'static str> {
     let is_read = matches!(command.behind, Behind::ReadFiles);
     if !is_option(option) {
-        Some("$0: $1 is one argument too many")
+        Some(more_sentence(option))
     } else if is_read && option == "--cells" {
         Some("$0: $1 is no option of this command")
     } else if is_among(arguments.get(..index).unwrap_or(&[]), option) {
@@ -57,7 +72,7 @@ pub(crate) fn rest_mistake<'a>(
 ) -> Option<Mistake<'a>> {
     let slots = command.slots.len();
     let sentence = match command.behind {
-        Behind::Nothing => "$0: $1 is one argument too many",
+        Behind::Nothing => more_sentence(argument),
         Behind::Sets => return set_mistake(argument, arguments.len().saturating_sub(slots)),
         _ if index.saturating_sub(slots) % 2 == 1 => return name_mistake("FILE", argument, false),
         _ => option_sentence(command, arguments, index, argument)?,

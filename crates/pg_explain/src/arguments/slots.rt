@@ -1,6 +1,6 @@
 //! The arguments that each call of a command has.
 
-use crate::arguments::forms::{Range, Slot, is_option};
+use crate::arguments::forms::{JOINED, Range, Slot, is_joined, is_option};
 use crate::arguments::mistake::{Mistake, about_arguments};
 
 /// What is wrong with an argument as a name. Where the command has options, one that stands there
@@ -14,6 +14,8 @@ pub(crate) fn name_mistake<'a>(
         "$0: $2 is empty, and has to be a name"
     } else if !argument.starts_with("--") {
         return None;
+    } else if has_options && is_joined(argument) {
+        JOINED
     } else if has_options && is_option(argument) {
         "$0: $1 belongs behind the six names, and stands where $2 is due"
     } else {

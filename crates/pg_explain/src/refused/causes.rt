@@ -2,8 +2,9 @@
 
 use crate::chars::{has_minima, up_to};
 use crate::refused::letter_causes::push_letter_cause;
+use crate::refused::parameters::items_in;
 use crate::wrong::RefusalCase;
-use pg_types::Kind;
+use pg_types::{Kind, is_separator};
 use pg_visible::Part::Name;
 use pg_visible::{Spot, Text};
 use std::alloc::AllocError;
@@ -45,6 +46,43 @@ fn head_cause(head: &[u8]) -> Option<&'static str> {
     Some(NO_HEAD)
 }
 
+/// What is said of a translate file that has a parameters file's numbers.
+const PARAMETERS: &str =
+    "$0 stands where TRANSLATE is due, and has numbers alone, as a parameters file";
+
+/// What is said of a parameters file that has letters where it begins.
+const NO_PARAMETERS: &str =
+    "$0 stands where PARAMS is due, and a parameters file has numbers alone";
+
+/// How many numbers the parameters of one level are.
+const LEVEL_NUMBERS: usize = 7;
+
+/// Whether there is no byte but those of numbers and what stands between them, and there are as
+/// many numbers as a level takes.
+fn are_numbers(bytes: &[u8]) -> bool {
+    bytes
+        .iter()
+        .all(|byte| byte.is_ascii_digit() || is_separator(*byte))
+        && LEVEL_NUMBERS <= items_in(bytes)
+}
+
+/// What is said of a file that stands in the place of another, where its bytes show it.
+fn name_cause(refused: &RefusalCase<'_>, spot: &Spot<'_>) -> Option<&'static str> {
+    match refused.refusal.kind {
+        Kind::BadMinima | Kind::BadMark | Kind::BadSpelling | Kind::SpellingClash
+            if are_numbers(refused.bytes) => { Some(PARAMETERS) }
+        Kind::BadNumber if matches!(refused.refusal.line, 1 | 3) => {
+            let first = *spot.rest().first()?;
+            if first.is_ascii_alphabetic() || 128 <= first {
+                Some(NO_PARAMETERS)
+            } else {
+                None
+            }
+        }
+        _ => None,
+    }
+}
+
 /// What is said of a file for the place of its refusal, where that shows a cause.
 fn place_cause(kind: Kind, spot: &Spot<'_>) -> Option<&'static str> {
     match kind {
@@ -64,6 +102,10 @@ fn cause_of(refused: &RefusalCase<'_>, spot: &Spot<'_>) -> Option<&'static str> 
             return cause;
         }
     }
+    let cause = name_cause(refused, spot);
+    if cause.is_some() {
+        return cause;
+    }
     place_cause(refused.refusal.kind, spot)
 }
 
@@ -77,7 +119,7 @@ pub(crate) fn push_cause<'a>(
         return text.line(cause, &[Name(refused.name)]);
     }
     match &refused.letters {
-        Some(letters) => push_letter_cause(text, refused, letters, spot.rest()),
+        Some(letters) => push_letter_cause(text, refused, letters, spot),
         None => Ok(()),
     }
 }

@@ -5,13 +5,13 @@ use crate::chars::{first_bytes, first_char, is_letter, is_letter_char, small_of}
 use crate::wrong::{Letters, RefusalCase};
 use pg_translate::{Item, Place};
 use pg_types::{Kind, Mark};
-use pg_visible::Part::{Byte, Char, Hex, Name, Show};
-use pg_visible::Text;
+use pg_visible::Part::{Byte, Char, Count, Hex, Name, Show};
+use pg_visible::{Spot, Text};
 use std::alloc::AllocError;
 
 /// Why a character is no letter, as a sentence. In it `$0` is the character, `$1` its bytes as
-/// numbers, and `$2` the translate file. `$3` is the refused file, `$4` the character beside it,
-/// and `$5` the mark of a hyphen.
+/// numbers, and `$2` the translate file. `$3` is the refused file, `$4` the character beside it, `$5`
+/// the mark of a hyphen, `$6` the character as Latin-1 has it, and `$7` the column of a mark.
 #[derive(Clone, Copy)]
 struct Cause {
     sentence: &'static str,
@@ -22,8 +22,22 @@ struct Cause {
 const LATIN1_LETTER: &str =
     "$1 is $4 in Latin-1, and $2 has it in UTF-8: convert $3, as by iconv -f LATIN1 -t UTF-8";
 
+/// The same in Latin-2.
+const LATIN2_LETTER: &str =
+    "$1 is $4 in Latin-2, and $2 has it in UTF-8: convert $3, as by iconv -f LATIN2 -t UTF-8";
+
 /// It is one byte, and no UTF-8.
-const LATIN1: &str = "$1 is no UTF-8; in Latin-1 it would be $4";
+const LATIN: &str = "$1 is no UTF-8; it would be $6 in Latin-1 and $4 in Latin-2";
+
+/// The characters of Latin-2 from A0 on.
+const LATIN2: [char; 96] = [
+    '\u{A0}', 'Ą', '˘', 'Ł', '¤', 'Ľ', 'Ś', '§', '¨', 'Š', 'Ş', 'Ť', 'Ź', '\u{AD}', 'Ž', 'Ż', '°',
+    'ą', '˛', 'ł', '´', 'ľ', 'ś', 'ˇ', '¸', 'š', 'ş', 'ť', 'ź', '˝', 'ž', 'ż', 'Ŕ', 'Á', 'Â', 'Ă',
+    'Ä', 'Ĺ', 'Ć', 'Ç', 'Č', 'É', 'Ę', 'Ë', 'Ě', 'Í', 'Î', 'Ď', 'Đ', 'Ń', 'Ň', 'Ó', 'Ô', 'Ő', 'Ö',
+    '×', 'Ř', 'Ů', 'Ú', 'Ű', 'Ü', 'Ý', 'Ţ', 'ß', 'ŕ', 'á', 'â', 'ă', 'ä', 'ĺ', 'ć', 'ç', 'č', 'é',
+    'ę', 'ë', 'ě', 'í', 'î', 'ď', 'đ', 'ń', 'ň', 'ó', 'ô', 'ő', 'ö', '÷', 'ř', 'ů', 'ú', 'ű', 'ü',
+    'ý', 'ţ', '˙',
+];
 
 /// It is UTF-8, and the table has it as one byte.
 const UTF8: &str = "$0 is UTF-8 here and one byte of Latin-1 in $2: both files need one encoding";
@@ -39,8 +53,19 @@ const HYPHEN: &str = "this is a hyphen of Unicode; the mark of a hyphen is $5";
 const ACCENT: &str =
     "this accent is a character of its own behind its letter: compose the file to NFC, or spell the letter so in $2";
 
-/// It is a mark of dictionaries, in a pattern.
+/// It is a mark of dictionaries, in a pattern without digits.
 const MARK: &str = "$0 is a mark of dictionaries; patterns have digits";
+
+/// It is a mark of dictionaries, in a pattern with digits.
+const MARK_LETTER: &str =
+    "$0 is a mark of dictionaries; to make it a letter, the translate file needs another mark in column $7 of its first line, and a line \" $0\"";
+
+/// It is `=`, in a dictionary.
+const EQUALS: &str =
+    "if $0 is the hyphen of $3, write it into column 6 of the first line of the translate file";
+
+/// It is a dot in the middle, in a dictionary.
+const DOT: &str = "if $0 is the hyphen of $3, write $5 in its place, since a mark is one byte";
 
 /// The table does not have it, and is that of no file.
 const NO_FILE: &str = "$2 has the letters a to z alone: write a translate file with a line for $0";
@@ -95,20 +120,43 @@ fn char_cause(letters: &Letters<'_>, c: char) -> Option<Cause> {
 
 /// Why a byte that begins no character is no letter.
 fn stray_byte_cause(letters: &Letters<'_>, byte: u8) -> Option<Cause> {
-    if byte < 0xA0 {
-        return None;
+    let beside = *LATIN2.get(usize::from(byte.checked_sub(0xA0)?))?;
+    let latin1 = char::from(byte);
+    if is_letter_char(letters.table, latin1) {
+        return Some(Cause {
+            sentence: LATIN1_LETTER,
+            beside: latin1,
+        });
     }
-    let beside = char::from(byte);
     let sentence = if is_letter_char(letters.table, beside) {
-        LATIN1_LETTER
+        LATIN2_LETTER
     } else {
-        LATIN1
+        LATIN
     };
     Some(Cause { sentence, beside })
 }
 
+/// What is said of a mark of dictionaries in a line of patterns. One without digits is no pattern.
+fn mark_sentence(line: &[u8]) -> &'static str {
+    if line.iter().any(|byte| byte.is_ascii_digit()) {
+        MARK_LETTER
+    } else {
+        MARK
+    }
+}
+
+/// What is said of a character that some lists have as their hyphen.
+fn hyphen_sentence(kind: Kind, c: char) -> Option<&'static str> {
+    match (kind, c) {
+        (Kind::DictionaryCharacter, '=') => Some(EQUALS),
+        (Kind::DictionaryCharacter, '\u{B7}') => Some(DOT),
+        _ => None,
+    }
+}
+
 /// Why the refused bytes begin no item.
-fn item_cause(letters: &Letters<'_>, kind: Kind, rest: &[u8]) -> Option<Cause> {
+fn item_cause(letters: &Letters<'_>, kind: Kind, spot: &Spot<'_>) -> Option<Cause> {
+    let rest = spot.rest();
     let byte = *rest.first()?;
     if kind != Kind::DictionaryCharacter && kind != Kind::PatternCharacter {
         return None;
@@ -118,25 +166,43 @@ fn item_cause(letters: &Letters<'_>, kind: Kind, rest: &[u8]) -> Option<Cause> {
         first_char(rest),
     ) {
         (Item::Mark(_, _), _) => Some(Cause {
-            sentence: MARK,
+            sentence: mark_sentence(spot.text),
             beside: char::from(byte),
         }),
-        (_, Some(c)) => char_cause(letters, c),
+        (_, Some(c)) => match hyphen_sentence(kind, c) {
+            Some(sentence) => Some(Cause {
+                sentence,
+                beside: c,
+            }),
+            None => char_cause(letters, c),
+        },
         (_, None) => stray_byte_cause(letters, byte),
     }
 }
 
-/// Appends why bytes begin no item, where they show it.
+/// The column of the mark that these bytes begin with, in the head of a translate file.
+fn mark_column(letters: &Letters<'_>, rest: &[u8]) -> usize {
+    match letters.table.item(Place::Dictionary, rest) {
+        Item::Mark(Mark::Error, _) => 5,
+        Item::Mark(Mark::Found, _) => 7,
+        Item::Mark(Mark::DontCare, _) => 8,
+        _ => 6,
+    }
+}
+
+/// Appends why the bytes at a place begin no item, where they show it.
 pub(crate) fn push_letter_cause<'a>(
     text: &mut Text,
     refused: &RefusalCase<'a>,
     letters: &Letters<'a>,
-    rest: &'a [u8],
+    spot: &Spot<'a>,
 ) -> Result<(), AllocError> {
-    let Some(cause) = item_cause(letters, refused.refusal.kind, rest) else {
+    let Some(cause) = item_cause(letters, refused.refusal.kind, spot) else {
         return Ok(());
     };
-    let bytes = first_bytes(rest);
+    let bytes = first_bytes(spot.rest());
+    let latin1 = char::from(*bytes.first().unwrap_or(&b'?'));
+    let column = mark_column(letters, spot.rest());
     let hyphen = letters.table.mark_byte(Mark::Missed);
     text.line(
         cause.sentence,
@@ -147,6 +213,8 @@ pub(crate) fn push_letter_cause<'a>(
             Name(refused.name),
             Char(cause.beside),
             Byte(hyphen),
+            Char(latin1),
+            Count(column),
         ],
     )
 }

@@ -3,9 +3,9 @@
 mod items;
 
 use crate::refused::more::{MORE_MAX, push_count};
-use crate::refused::parameters::items::{first_item, items_in, number_at, number_of};
+use crate::refused::parameters::items::{first_item, number_at, number_of};
 use crate::wrong::RefusalCase;
-pub(crate) use items::item_spot;
+pub(crate) use items::{item_spot, items_in};
 use pg_types::{COST_MAX, Kind, LENGTH_MAX, LEVEL_MAX, is_answer, next_item};
 use pg_visible::Part::{Count, Name, Say, Show};
 use pg_visible::{Spot, Text};
@@ -174,6 +174,11 @@ pub(crate) fn push_more_items(
         push_count(text, refused.name, "item", more, more < MORE_MAX)?;
     }
     let has = items_in(refused.bytes);
+    if has < 2 {
+        let sentence =
+            "$0 begins with the first level and the last, as 1 3, and has five numbers for each level";
+        return text.line(sentence, &[Name(refused.name)]);
+    }
     if !is_known || numbers <= has {
         return Ok(());
     }

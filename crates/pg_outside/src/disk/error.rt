@@ -14,6 +14,10 @@ pub enum WriteError {
     /// The name leads to a regular file that was read or written before.
     #[error("the file was read or written before")]
     Kept,
+    /// The name leads through a link of the system to an open file, as `/dev/stdout` does, and that
+    /// is a regular one. Others may be writing it.
+    #[error("the name stands for an open file: give the file's own name, or a pipe")]
+    Opened,
     /// The name begins a row of more than 40 links, or what it leads to changed from one call to
     /// the next.
     #[error("the link could not be followed")]

@@ -1,15 +1,15 @@
 //! Files by name over a system of files: which file is read, replaced or written in place, and what
 //! is a fault.
-ghost use Rattle.std.specs.Prelude.{◌≡◌, ◌≢◌, ℕ, ◌+◌, ◌-◌, ◌^◌, ◌<◌, ◌≤◌, [], ◌∷◌, ◌++◌, length, true, Option, OnOk, OnErr, IfOk, IfErr, IfSome, IsErrOf, ◌⊎◌, vec_len, vec_capacity};
+ghost use Rattle.std.specs.Prelude.{◌≡◌, ◌≢◌, ℕ, ◌+◌, ◌-◌, ◌^◌, ◌<◌, ◌≤◌, [], ◌∷◌, ◌++◌, length, true, Option, Some, None, IsSome, OnOk, OnErr, IfOk, IfErr, IfSome, IsErrOf, ◌⊎◌, vec_len, vec_capacity};
 ghost use Rattle.pg_outside.specs.Faults.{next_count, Rose};
 ghost use Rattle.pg_outside.specs.FilesCalls.{Writes};
 ghost use Rattle.pg_outside.specs.Inside.disk.Causes.{IsCauseOf};
 ghost use Rattle.pg_outside.specs.Inside.disk.Disks.{KeepsDisk, HoldsNow, IsOpened, IsWritable};
 ghost use Rattle.pg_outside.specs.Inside.disk.Moments.{RunsCalls, WhereDirect, AtMoment, IsWritten, IsAsBefore};
-ghost use Rattle.pg_outside.specs.Inside.disk.Writes.{IsIn, KeepsAll, KeepsOnly, IsContent, IsContentCut, IsNoted, IsOld, IsSeenMode, IsDeep, IsFull, IsWrite, IsDiskWrite, AreAllTaken, WasKept};
+ghost use Rattle.pg_outside.specs.Inside.disk.Writes.{IsIn, KeepsAll, KeepsOnly, IsContent, IsContentCut, IsNoted, IsOld, IsSeenMode, LeadsThroughOpen, IsDeep, IsFull, IsWrite, IsDiskWrite, AreAllTaken, WasKept};
 
 use super::error::WriteError;
-use super::links::find;
+use super::links::follow;
 use super::new_file::{replace, write_all};
 use super::read::read_within;
 use super::system::{FileId, FileStatus, System};
@@ -25,7 +25,9 @@ use std::alloc::{AllocError, Global};
 /// once the device has them. Where that fails, the old file stands as before, and the new one is
 /// removed, unless the system refuses that. A link is followed, and the file that it leads to is
 /// replaced in the same way. A device and a pipe are written in place. A regular file that was read
-/// or written is not written again, whatever its name: such a write is a fault.
+/// or written is not written again, whatever its name: such a write is a fault. So is one to a
+/// regular file by a link of the system to an open file, as `/dev/stdout`, since others may still
+/// write into that file.
 #[derive(Drop)]
 pub struct DiskFiles<S: System + Drop> {
     alloc: Global,
@@ -33,6 +35,8 @@ pub struct DiskFiles<S: System + Drop> {
     /// The regular files that were read or written.
     kept: Vec<FileId>,
     failed: u64,
+    /// Why the last write that failed did so.
+    reason: Option<WriteError>,
     calls: CallLog,
 }
 
@@ -131,7 +135,7 @@ fn replace_kept<S: System>(
         (WhereDirect name.now (AtMoment name.now bytes.now mode))
         (WhereDirect name.now (IsAsBefore name.now))) }
     ensures cause { IfErr result (IsCauseOf (S.failures system.old) (S.failures system.new)
-        ⊥ ⊥ (KeepsDisk (S.told system.old) (S.told system.new)
+        ⊥ ⊥ ⊥ (KeepsDisk (S.told system.old) (S.told system.new)
         × HoldsNow (S.told system.new) (AreAllTaken name.now))) }
 {
     let id = replace(alloc, system, name, mode, bytes)?;
@@ -156,7 +160,7 @@ fn write_regular<S: System>(
     ensures { IsWrite result (S.failures system.old) (S.failures system.new) kept.old.items
         kept.new.items (S.told system.old) (S.told system.new) name.now bytes.now }
 {
-    let found = find(alloc, system, name)?;
+    let found = follow(alloc, system, name)?;
     let mode = mode_of_found(found.file, old)?;
     replace_kept(alloc, system, kept, found.name.as_str(), mode, bytes)
 }
@@ -205,14 +209,17 @@ fn write_named<S: System>(
     }
 }
 
-/// Counts a write that failed.
-fn count_write(failed: &mut u64, outcome: &Result<(), WriteError>)
+/// Counts a write that failed, and keeps why it did.
+fn count_write(failed: &mut u64, reason: &mut Option<WriteError>, outcome: &Result<(), WriteError>)
     ensures later { failed.old ≤ failed.new }
     ensures err { OnErr outcome.now (failed.new ≡ next_count failed.old) }
     ensures ok { OnOk outcome.now (failed.new ≡ failed.old) }
+    ensures reason { IfErr outcome.now (λ error. reason.new ≡ Some error) }
+    ensures ok_reason { OnOk outcome.now (reason.new ≡ reason.old) }
 {
-    if outcome.is_err() {
+    if let Err(error) = outcome {
         *failed = failed.saturating_add(1);
+        *reason = Some(*error);
     }
 }
 
@@ -237,6 +244,7 @@ impl<S: System + Drop> DiskFiles<S> {
         ensures system { result.system ≡ system }
         ensures kept { result.kept.items ≡ [] }
         ensures faults { all_faults result ≡ 0 }
+        ensures reason { result.reason ≡ None }
         ensures calls { disk_calls result ≡ [] }
     {
         DiskFiles {
@@ -244,6 +252,7 @@ impl<S: System + Drop> DiskFiles<S> {
             system,
             kept: Vec::new(alloc),
             failed: 0,
+            reason: None,
             calls: CallLog::new(),
         }
     }
@@ -255,11 +264,19 @@ impl<S: System + Drop> DiskFiles<S> {
         &self.system
     }
 
+    /// Why the last write that failed did so, where one failed.
+    pub fn reason(&self) -> Option<WriteError>
+        ensures { result ≡ self.now.reason }
+    {
+        self.reason
+    }
+
     /// Sets the file of this name to `bytes`.
     ///
     /// # Errors
     /// Each is a fault. `Failed` where a call of the system failed, as on a file that may not be
     /// written. `Kept` where the name leads to a regular file that was read or written before.
+    /// `Opened` where it leads to one, or to none, through a link of the system to an open file.
     /// `Unfollowed` where it begins a row of more than 40 links, or leads to another file than it
     /// did a call before. `Taken` where each of a thousand names that a new file could have is
     /// taken. `Memory` may always come.
@@ -272,8 +289,13 @@ impl<S: System + Drop> DiskFiles<S> {
         ensures cause { IfErr result
             (IsCauseOf (S.failures self.old.system) (S.failures self.new.system)
             (HoldsNow (S.told self.new.system) (WasKept name.now self.old.kept.items))
+            (HoldsNow (S.told self.new.system) (LeadsThroughOpen name.now))
             (HoldsNow (S.told self.new.system) (IsDeep name.now))
             (HoldsNow (S.told self.new.system) (IsFull name.now))) }
+
+        // The error is kept until another write fails.
+        ensures reason { IfErr result (λ error. self.new.reason ≡ Some error) }
+        ensures ok_reason { OnOk result (self.new.reason ≡ self.old.reason) }
 
         // No count of faults falls, and the call is one more.
         ensures later { all_faults self.old ≤ all_faults self.new }
@@ -281,7 +303,7 @@ impl<S: System + Drop> DiskFiles<S> {
     {
         self.calls = self.calls.and(&Call::Write(name));
         let result = write_named(self.alloc, &mut self.system, &mut self.kept, name, bytes);
-        count_write(&mut self.failed, &result);
+        count_write(&mut self.failed, &mut self.reason, &result);
         result
     }
 }
@@ -358,6 +380,10 @@ impl<S: System + Drop> Files for DiskFiles<S> {
         // What it leaves.
         ensures disk { IsDiskWrite S.told S.failures result
             self.old self.new name.now bytes.now }
+
+        // The reason of a write that fails is kept until another one fails.
+        ensures reason { OnErr result (IsSome self.new.reason) }
+        ensures ok_reason { OnOk result (self.new.reason ≡ self.old.reason) }
     {
         match self.write_file(name, bytes) {
             Ok(()) => Ok(()),

@@ -1,5 +1,6 @@
 //! The adapter over real files: each call is one call of the operating system, and it decides
-//! nothing.
+//! nothing. To look at a link is two calls, since the second tells the links of the system by their
+//! device.
 ghost use Rattle.std.specs.Prelude.{◌≡◌, ◌≤◌, None, Ok, IfOk, OnOk, OnErr};
 ghost use Rattle.pg_outside.specs.Faults.{Rose, next_count};
 
@@ -32,12 +33,25 @@ fn id_of(metadata: &Metadata) -> FileId {
     }
 }
 
+/// A name where the system shows its processes. What each has opened stands there as links.
+const PROCESS: &str = "/proc/self";
+
+/// Whether a link is one of the system to an open file: whether it stands where the system shows its
+/// processes.
+fn is_open(system: &impl rt::Files, link: &Metadata) -> bool {
+    match fs::symlink_metadata(system, PROCESS) {
+        Ok(process) => link.dev() == process.dev(),
+        Err(_) => false,
+    }
+}
+
 /// What a name is, by what the system says of it.
-fn kind_of(found: Option<Metadata>) -> NameKind {
+fn kind_of(system: &impl rt::Files, found: Option<Metadata>) -> NameKind {
     match found {
         None => NameKind::Missing,
-        Some(metadata) if metadata.is_symlink() => NameKind::Link,
-        Some(metadata) => NameKind::File(id_of(&metadata)),
+        Some(link) if link.is_symlink() && is_open(system, &link) => NameKind::OpenFile,
+        Some(link) if link.is_symlink() => NameKind::Link,
+        Some(file) => NameKind::File(id_of(&file)),
     }
 }
 
@@ -168,7 +182,7 @@ impl<R: rt::Files + Drop> System for HostSystem<R> {
         let found = fs::symlink_metadata(&self.system, name);
         let none = ErrorKind::NotFound;
         let found = count_unless_none(&mut self.reason, &mut self.failures, found, none)?;
-        Ok(kind_of(found))
+        Ok(kind_of(&self.system, found))
     }
 
     fn read_link(&mut self, alloc: Global, name: &str) -> Result<String, CallFailed> {

@@ -3,7 +3,7 @@ ghost use Rattle.std.specs.Prelude.{◌≡◌, IfOk, IfErr, string_bytes};
 ghost use Rattle.pg_outside.specs.Inside.disk.Causes.{IsCauseOf};
 ghost use Rattle.pg_outside.specs.Inside.disk.Disks.{KeepsDisk, HoldsNow};
 ghost use Rattle.pg_outside.specs.Inside.disk.NewNames.{IsFolderOf, IsLinkedName};
-ghost use Rattle.pg_outside.specs.Inside.disk.Writes.{IsDeep, StandsFor};
+ghost use Rattle.pg_outside.specs.Inside.disk.Writes.{IsDeep, LeadsThroughOpen, StandsFor};
 
 use super::error::WriteError;
 use super::system::{FileId, NameKind, System};
@@ -13,7 +13,7 @@ use std::alloc::{AllocError, Global};
 const LINK_NAMES_MAX: u32 = 41;
 
 /// The folder of a name with its last slash, and nothing where the name has no slash.
-pub(crate) fn folder_of(name: &str) -> &str
+pub fn folder_of(name: &str) -> &str
     ensures { IsFolderOf result.now name.now }
 {
     match name.rfind('/') {
@@ -38,8 +38,10 @@ pub fn linked_name(alloc: Global, link: &str, text: &str) -> Result<String, Allo
 
 /// A name that is no link, and the file that it leads to, if there is one.
 #[derive(Drop)]
-pub(crate) struct RealName {
+pub struct RealName {
+    /// The name.
     pub name: String,
+    /// The file, if there is one.
     pub file: Option<FileId>,
 }
 
@@ -53,17 +55,15 @@ fn make_real_name(name: String, file: Option<FileId>) -> RealName
 /// Follows the links of a name, up to a name that is no link.
 ///
 /// # Errors
-/// `Unfollowed` where the name begins a row of more links than are followed.
-pub(crate) fn find<S: System>(
-    alloc: Global,
-    system: &mut S,
-    name: &str,
-) -> Result<RealName, WriteError>
+/// `Opened` where one of them is a link of the system to an open file. `Unfollowed` where the name
+/// begins a row of more links than are followed.
+pub fn follow<S: System>(alloc: Global, system: &mut S, name: &str) -> Result<RealName, WriteError>
     ensures same { KeepsDisk (S.told system.old) (S.told system.new) }
     ensures found { IfOk result (λ found. (S.failures system.new ≡ S.failures system.old)
         × HoldsNow (S.told system.new) (StandsFor (string_bytes found.name) found.file name.now)) }
     ensures cause { IfErr result (IsCauseOf (S.failures system.old) (S.failures system.new)
-        ⊥ (HoldsNow (S.told system.new) (IsDeep name.now)) ⊥) }
+        ⊥ (HoldsNow (S.told system.new) (LeadsThroughOpen name.now))
+        (HoldsNow (S.told system.new) (IsDeep name.now)) ⊥) }
 {
     let mut real = String::from_str(alloc, name)?;
     for _ in 0..LINK_NAMES_MAX {
@@ -72,6 +72,7 @@ pub(crate) fn find<S: System>(
                 let text = system.read_link(alloc, real.as_str())?;
                 real = linked_name(alloc, real.as_str(), text.as_str())?;
             }
+            NameKind::OpenFile => return Err(WriteError::Opened),
             NameKind::Missing => return Ok(make_real_name(real, None)),
             NameKind::File(id) => return Ok(make_real_name(real, Some(id))),
         }

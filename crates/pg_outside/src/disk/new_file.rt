@@ -38,7 +38,7 @@ fn make_beside<S: System>(
     ensures apart { IfOk result (λ made. string_bytes made.own ≢ name.now) }
     ensures ok_failures { OnOk result (S.failures system.new ≡ S.failures system.old) }
     ensures cause { IfErr result (IsCauseOf (S.failures system.old) (S.failures system.new)
-        ⊥ ⊥ (HoldsNow (S.told system.new) (AreAllTaken name.now))) }
+        ⊥ ⊥ ⊥ (HoldsNow (S.told system.new) (AreAllTaken name.now))) }
 {
     let folder = folder_of(name);
     for number in 0..NEW_NAMES_MAX {
@@ -164,7 +164,7 @@ pub(crate) fn replace<S: System>(
         (WhereDirect name.now (AtMoment name.now bytes.now mode))
         (WhereDirect name.now (IsAsBefore name.now))) }
     ensures cause { IfErr result (IsCauseOf (S.failures system.old) (S.failures system.new)
-        ⊥ ⊥ (KeepsDisk (S.told system.old) (S.told system.new)
+        ⊥ ⊥ ⊥ (KeepsDisk (S.told system.old) (S.told system.new)
         × HoldsNow (S.told system.new) (AreAllTaken name.now))) }
 {
     let mut new = make_beside(alloc, system, name)?;

@@ -26,8 +26,10 @@ pub struct FileId {
 pub enum NameKind {
     /// Nothing has this name.
     Missing,
-    /// A symbolic link.
+    /// A symbolic link, but none to an open file.
     Link,
+    /// A link of the system to a file that is open, as `/proc/self/fd/1`.
+    OpenFile,
     /// Anything else, as a file or a folder.
     File(FileId),
 }

@@ -19,6 +19,15 @@ link_named (link ∷ older) name = or_this (link_named older name) link name
 abbrev pub is_link_in : List Link → List ℕ → Bool
 is_link_in links name = is_some (link_named links name)
 
+-- whether a link, if there is one, is one of the system to an open file
+abbrev pub is_open_one : Option Link → Bool
+is_open_one None = false
+is_open_one (Some link) = link.is_open
+
+-- whether the name is a link of the system to an open file
+abbrev pub is_open_in : List Link → List ℕ → Bool
+is_open_in links name = is_open_one (link_named links name)
+
 -- where the name is that of the link, it stands for what the link says
 abbrev pub followed_by : List ℕ → List ℕ → Link → List ℕ
 followed_by real said link = cond (bytes_eq real (string_bytes link.name)) said real
@@ -44,6 +53,7 @@ abbrev pub links_in : List Link → Links
 links_in links = record {
   real = real_in links;
   is_link = is_link_in links;
+  is_open = is_open_in links;
   next = λ name. said_or (link_named links name) name;
   new_mode = 420;
   is_plain = has_no_link links;

@@ -15,8 +15,8 @@ use Rattle.pg_table.specs.Numbers.{u32_at, u32_bytes}
 use Rattle.pg_table.specs.Texts.{cell_bytes, record_bytes, table_text}
 use Rattle.pg_table.specs.Inside.text.Files.{file_of, table_cells, table_records}
 use Rattle.pg_table.proofs.ByteParts.{HasPart, part_first, part_rest, u32_part}
-use Rattle.pg_top.specs.pack.Inside.Inputs.{packed_text}
-use Rattle.pg_top.specs.totals.TotalsRule.{packed_table}
+use Rattle.pg_top.specs.Inside.Packed.{packed_text}
+use Rattle.pg_top.specs.Totalling.{packed_table}
 
 -- the table begins with its mark and the greatest sign
 module _ (n : ℕ) (P : Patterns) where

@@ -1,7 +1,7 @@
 -- The loops that make the dictionary of `sample`: what is made so far, with the rest behind it, is the whole.
 use Rattle.std.proofs.Common.{◌≡◌, ℕ, suc, ◌+◌, ◌-◌, ◌<◌, ◌≤◌, List, [], ◌∷◌, ◌++◌, sym, ap, ◌∙◌, append_assoc, arith}
 use Rattle.std.proofs.lemmas.List.{append-nil}
-use Rattle.pg_top.specs.sample.SampleRule.{MadeText, syllable, further_syllables, word, sample_text}
+use Rattle.pg_top.specs.Sampling.{MadeText, syllable, further_syllables, word, sample_text}
 
 -- a syllable more
 further_next : (count i x : ℕ) → i < count → further_syllables (count - i) x ≡ further_syllables (suc (count - (i + 1))) x

@@ -22,8 +22,8 @@ use Rattle.pg_dict.specs.Inside.WrittenWords.{letters_among, IsLine, text_of_lin
 use Rattle.pg_dict.proofs.LineReading.LineLaws.{line_is_read, file_is_read, items_line}
 use Rattle.pg_draws.specs.DrawnNumbers.{next_state, draw}
 use Rattle.pg_words.specs.declared.limits.TheConstants.{COUNT_MAX}
-use Rattle.pg_top.specs.sample.SampleRule.{MadeText, ending, syllable, further_syllables, word, words_made, sample_text}
-use Rattle.pg_top.specs.sample.Inside.Lines.{closings, consonants, vowels}
+use Rattle.pg_top.specs.Sampling.{MadeText, ending, syllable, further_syllables, word, words_made, sample_text}
+use Rattle.pg_top.specs.Inside.Sampled.{closings, consonants, vowels}
 use Rattle.pg_types.proofs.BoolFacts.{and_first, and_second}
 
 -- letters, and hyphens beside them

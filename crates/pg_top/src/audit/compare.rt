@@ -1,14 +1,10 @@
 //! Given files, read and compared one after the other.
-ghost use Rattle.std.specs.Prelude.{◌≡◌, [], ◌∷◌, ◌<◌, length, slice_get, IfOk, IfErr, IfSome, Some};
-ghost use Rattle.std.specs.Option.{option_map};
+ghost use Rattle.std.specs.Prelude.{◌≡◌, IfOk};
 ghost use Rattle.pg_audit.specs.Differences.{first_false};
-ghost use Rattle.pg_outside.specs.Content.{file_at};
-ghost use Rattle.pg_outside.specs.FilesCalls.{Reads};
-ghost use Rattle.pg_top.specs.audit.AuditRule.{denies};
-ghost use Rattle.pg_steps.specs.FileCalls.{MakesCalls};
-ghost use Rattle.pg_steps.specs.Readings.{first_end};
-ghost use Rattle.pg_steps.specs.Inside.ends.Stops.{OnlyReads, StopsAt, StopsReading};
-ghost use Rattle.pg_top.specs.audit.Inside.Verdicts.{wanted_file, wanted_files, end_of, ReadsToFind};
+ghost use Rattle.pg_plans.specs.Plans.{Plan};
+ghost use Rattle.pg_steps.specs.Inside.Steps.{Begins};
+ghost use Rattle.pg_top.specs.Inside.Comparing.{comparing, comparing_one, end_of, judged, after};
+ghost use Rattle.pg_top.specs.Inside.selection.SelectedFiles.{made_file, made_files};
 
 use crate::audit::no_lines::no_line;
 use crate::selected_files::SelectedFile;
@@ -39,9 +35,8 @@ fn judge<W: Watch>(
     text: &[u8],
     watch: &W,
 ) -> Result<Verdict, AllocError>
-    ensures { IfOk result
-        (λ verdict. end_of verdict
-        ≡ option_map (denies wanted.now.given) (first_false bytes.now text.now)) }
+    ensures { IfOk result (λ verdict. (rest : Plan)
+        → after verdict rest ≡ judged wanted.now.given (first_false bytes.now text.now) rest) }
 {
     match compare(bytes, text) {
         None => Ok(Verdict::Equal),
@@ -60,28 +55,13 @@ fn compare_file<'a, F: Files, W: Watch>(
     files: &mut F,
     watch: &W,
 ) -> Result<Verdict, Stop<'a>>
-    ensures only { OnlyReads (F.shown files.old) (F.shown files.new) }
-    ensures calls { MakesCalls (F.shown files.old)
-        (F.shown files.new) (Reads wanted.now.name.now ∷ []) }
-    ensures ok { IfOk result (λ verdict. IfSome (F.shown files.new).held (λ files.
-        option_map ((wanted_file wanted.now).ends (file_at files))
-        (file_at files wanted.now.name.now)
-        ≡ Some (end_of verdict))) }
-    ensures stopped { IfErr result
-        (StopsAt (wanted_file wanted.now) (F.shown files.old) (F.shown files.new)) }
+    ensures { (rest : Plan) → Begins (comparing_one (made_file wanted.now) rest) result
+        (λ verdict. after verdict rest) (F.shown files.old) (F.shown files.new) }
 {
     let text = wanted.text.as_slice();
     let bytes = read_front(alloc, wanted.name, text.len() + MORE, files, watch)?;
     let verdict = judge(alloc, &bytes, wanted, text, watch)?;
     Ok(verdict)
-}
-
-/// The wanted file with the number `i`, counted from 0.
-fn wanted_at<'a, 'b>(wanted: &'b [SelectedFile<'a>], i: usize) -> &'b SelectedFile<'a>
-    requires { i < length wanted.now }
-    ensures { slice_get wanted.now i ≡ Some result.now }
-{
-    &wanted[i]
 }
 
 /// Compares files one after the other, up to the first that has a false line.
@@ -91,21 +71,14 @@ pub fn compare_all<'a, F: Files, W: Watch>(
     files: &mut F,
     watch: &W,
 ) -> Result<Verdict, Stop<'a>>
-    ensures only { OnlyReads (F.shown files.old) (F.shown files.new) }
-    ensures ok { IfOk result (λ verdict. IfSome (F.shown files.new).held (λ files.
-        first_end (file_at files) (wanted_files wanted.now) ≡ end_of verdict)) }
-    ensures counted { IfOk result (λ verdict.
-        ReadsToFind (wanted_files wanted.now) verdict (F.shown files.old) (F.shown files.new)) }
-    ensures stopped { IfErr result
-        (StopsReading (wanted_files wanted.now) (F.shown files.old) (F.shown files.new)) }
+    ensures { Begins (comparing (made_files wanted.now)) result end_of
+        (F.shown files.old) (F.shown files.new) }
 {
-    let count = wanted.len();
-    'files: for i in 0..count {
-        let verdict = compare_file(alloc, wanted_at(wanted, i), files, watch)?;
-        match verdict {
-            Verdict::Equal => {}
-            Verdict::False(line) => return Ok(Verdict::False(line)),
-        }
+    match wanted {
+        [] => Ok(Verdict::Equal),
+        [first, behind @ ..] => match compare_file(alloc, first, files, watch)? {
+            Verdict::Equal => compare_all(alloc, behind, files, watch),
+            Verdict::False(line) => Ok(Verdict::False(line)),
+        },
     }
-    Ok(Verdict::Equal)
 }

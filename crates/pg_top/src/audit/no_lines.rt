@@ -1,9 +1,7 @@
 //! The line of `no`.
-ghost use Rattle.std.specs.Prelude.{◌≡◌, ◌++◌, [], IfOk, OnOk};
+ghost use Rattle.std.specs.Prelude.{◌≡◌, ◌++◌, IfOk, OnOk};
 ghost use Rattle.pg_audit.specs.FoundLines.{found_text};
-ghost use Rattle.pg_steps.specs.Outcomes.{Ends};
-ghost use Rattle.pg_steps.specs.declared.answers.Status.TheVariants.{No};
-ghost use Rattle.pg_top.specs.audit.AuditRule.{denies};
+ghost use Rattle.pg_top.specs.Auditing.{no_line as no_line_of};
 
 use pg_audit::{FalseLine, SHOWN_MAX};
 use pg_steps::{Given, Input, push_label};
@@ -38,8 +36,8 @@ fn push_found(text: &mut Vec<u8>, found: &[u8]) -> Result<(), AllocError>
 
 /// The line that says which line of a given file is false, and what stands there.
 pub fn no_line(alloc: Global, given: Given, line: &FalseLine<'_>) -> Result<Vec<u8>, AllocError>
-    ensures { IfOk result (λ text. Ends No [] text.items
-        ≡ denies given (record { line = line.now.line; found = line.now.found.now })) }
+    ensures { IfOk result (λ text. text.items
+        ≡ no_line_of given (record { line = line.now.line; found = line.now.found.now })) }
 {
     let mut text = Vec::from_slice(alloc, b"no: ")?;
     push_label(&mut text, Input::Given(given))?;

@@ -1,9 +1,9 @@
 //! The texts that given files should be.
-ghost use Rattle.std.specs.Prelude.{◌≡◌, IfOk, None, Some};
+ghost use Rattle.std.specs.Prelude.{◌≡◌, IfOk, None};
 ghost use Rattle.pg_words.specs.Inside.CommandRequests.{texts_of};
 ghost use Rattle.pg_top.specs.Inside.selection.SelectionSigns.{HasSigns};
 ghost use Rattle.pg_top.specs.Inside.selection.SelectedRuns.{IsNew};
-ghost use Rattle.pg_top.specs.audit.Inside.Verdicts.{wanted_files, given_files};
+ghost use Rattle.pg_top.specs.Inside.selection.SelectedFiles.{made_files, due_files};
 
 use crate::selected_files::{SelectedFile, make_selected};
 use crate::selection::{Inputs, select};
@@ -23,8 +23,8 @@ pub fn make_wanted<'a, W: Watch>(
 ) -> Result<Vec<SelectedFile<'a>>, AllocError>
     requires signs { HasSigns inputs.now }
     requires cells { names.now.cells ≡ None }
-    ensures { IfOk result (λ wanted.
-        wanted_files wanted.items ≡ given_files (λ _. Some inputs.now) (texts_of names.now)) }
+    ensures { IfOk result
+        (λ wanted. made_files wanted.items ≡ due_files (texts_of names.now) inputs.now) }
 {
     watch.selects(names.patterns, &inputs.params, &inputs.start);
     let engine = PlainEngine::new(alloc, inputs.table.letters() + 1, &inputs.start)?;
@@ -45,8 +45,8 @@ fn run_wanted<'a, E: Engine>(
     requires new { IsNew inputs.now (E.meaning engine.old) }
     requires signs { HasSigns inputs.now }
     requires cells { names.now.cells ≡ None }
-    ensures { IfOk result (λ wanted.
-        wanted_files wanted.items ≡ given_files (λ _. Some inputs.now) (texts_of names.now)) }
+    ensures { IfOk result
+        (λ wanted. made_files wanted.items ≡ due_files (texts_of names.now) inputs.now) }
 {
     let run = select(alloc, engine, inputs)?;
     let wanted = make_selected(alloc, names, inputs, engine, &run)?;

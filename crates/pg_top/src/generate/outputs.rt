@@ -3,13 +3,13 @@ ghost use Rattle.std.specs.Prelude.{◌≡◌, ◌++◌, [], IfOk, OnOk, Some, m
 ghost use Rattle.pg_driver.specs.Inside.records.RunAccounts.{TellsCells};
 ghost use Rattle.pg_packed.specs.Inside.Starts.{pattern_families};
 ghost use Rattle.pg_words.specs.Inside.CommandRequests.{texts_of};
-ghost use Rattle.pg_top.specs.generate.GenerateRule.{selected_files, selected_lines};
+ghost use Rattle.pg_top.specs.Generating.{selected_lines};
 ghost use Rattle.pg_top.specs.Inside.selection.SelectionAccounts.{work_line, selected_cells, passes_begun, last_layout as last_layout_of};
-ghost use Rattle.pg_top.specs.Inside.selection.SelectedFiles.{written_file};
+ghost use Rattle.pg_top.specs.Inside.selection.SelectedFiles.{written_file, selected_files};
 ghost use Rattle.pg_top.specs.Inside.selection.SelectedRuns.{IsNew, TellsSelection, HasSelected};
 ghost use Rattle.pg_top.specs.Selection.{selected_text};
 ghost use Rattle.pg_top.specs.Inside.selection.SelectionSigns.{HasSigns, greatest_sign_of};
-ghost use Rattle.pg_steps.specs.Inside.writing.WritesMade.{writing_of};
+ghost use Rattle.pg_steps.specs.Inside.Texts.{writing_of};
 ghost use Rattle.pg_types.specs.Lines.{lines};
 
 use crate::printed::done_line;

@@ -1,19 +1,19 @@
 //! What `pack` writes and prints.
-ghost use Rattle.std.specs.Prelude.{◌≡◌, ◌+◌, ◌∷◌, [], IfOk, IfErr, Ok};
+ghost use Rattle.std.specs.Prelude.{◌≡◌, ◌+◌, ◌∷◌, [], IfOk};
+ghost use Rattle.pg_outside.specs.Content.{FilesShown};
 ghost use Rattle.pg_patterns.specs.Inside.PatternMaps.{SignsUpTo};
 ghost use Rattle.pg_translate.specs.Alphabets.{letters_of};
-ghost use Rattle.pg_steps.specs.Outcomes.{Ends};
-ghost use Rattle.pg_steps.specs.declared.answers.Status.TheVariants.{Done};
 ghost use Rattle.pg_patterns.specs.Texts.{pattern_text};
-ghost use Rattle.pg_top.specs.pack.PackRule.{GivesValues, outcome_of_pack, packed_line as packed_line_of};
-ghost use Rattle.pg_top.specs.totals.TotalsRule.{packed_table};
-ghost use Rattle.pg_top.specs.pack.Inside.Inputs.{stop_of_table, packed_text};
-ghost use Rattle.pg_steps.specs.Inside.ends.Stops.{StopsMaking};
-ghost use Rattle.pg_steps.specs.Inside.writing.WritesMade.{written_names, writing_of};
+ghost use Rattle.pg_steps.specs.Inside.Steps.{Begins};
+ghost use Rattle.pg_steps.specs.Inside.Texts.{ending_of, writing_of};
+ghost use Rattle.pg_top.specs.Packing.{table_packed, packed_line as packed_line_of};
+ghost use Rattle.pg_top.specs.Inside.Packed.{stop_of_table};
 ghost use Rattle.pg_types.specs.Lines.{lines};
+ghost use Rattle.pg_table.specs.Texts.{table_text as table_text_of};
+ghost use Rattle.pg_top.specs.Promises.{IsGoodTable};
 
-use crate::pack::inputs::PackInputs;
 use crate::printed::count_lines;
+use pg_patterns::PatternSet;
 use pg_steps::{BuiltTexts, Input, Stop, push_file, refuse};
 use pg_table::{TableError, table_text};
 use pg_translate::Table;
@@ -61,16 +61,16 @@ fn write_table<'a>(
     alloc: Global,
     name: &'a str,
     text: Vec<u8>,
-    source: &PackInputs,
+    table: &Table,
+    patterns: &PatternSet,
 ) -> Result<BuiltTexts<'a>, AllocError>
-    requires { SignsUpTo (letters_of source.now.table + 1) source.now.patterns }
+    requires { SignsUpTo (letters_of table.now + 1) patterns.now }
     ensures files { IfOk result
         (λ made. writing_of made.files.items ≡ (name.now, text.items) ∷ []) }
     ensures lines { IfOk result (λ made.
-        made.lines.items ≡ packed_line_of
-        (pattern_text source.now.table source.now.patterns) text.items) }
+        made.lines.items ≡ packed_line_of (pattern_text table.now patterns.now) text.items) }
 {
-    let patterns = source.patterns.text(alloc, &source.table)?;
+    let patterns = patterns.text(alloc, table)?;
     let lines = packed_line(alloc, &patterns, &text)?;
     let mut files = Vec::new(alloc);
     push_file(&mut files, name, text)?;
@@ -81,31 +81,21 @@ fn write_table<'a>(
 pub fn make_table<'a, W: Watch>(
     alloc: Global,
     name: &'a str,
-    source: &PackInputs,
+    table: &Table,
+    patterns: &PatternSet,
     watch: &W,
 ) -> Result<BuiltTexts<'a>, Stop<'a>>
-    requires { SignsUpTo (letters_of source.now.table + 1) source.now.patterns }
-    ensures made { IfOk result
-        (λ made. outcome_of_pack name.now source.now
-        ≡ Ends Done (writing_of made.files.items) made.lines.items) }
-    ensures named { IfOk result
-        (λ made. written_names (writing_of made.files.items) ≡ name.now ∷ []) }
-    ensures table { IfOk result (λ made.
-        writing_of made.files.items
-        ≡ (name.now, packed_text source.now.table source.now.patterns) ∷ []) }
-    ensures accepted { IfOk result (λ _. packed_table source.now.table
-        (packed_text source.now.table source.now.patterns)
-        ≡ Ok (packed_text source.now.table source.now.patterns)) }
-    ensures gives { IfOk result (λ _.
-        GivesValues (packed_text source.now.table source.now.patterns) source.now.patterns) }
-    ensures stopped { IfErr result
-        (StopsMaking (outcome_of_pack name.now source.now)) }
+    requires { SignsUpTo (letters_of table.now + 1) patterns.now }
+    ensures made { (files : FilesShown)
+        → Begins (table_packed name.now table.now patterns.now) result ending_of files files }
+    ensures good { IfOk result (λ _. IsGoodTable table.now patterns.now
+        (table_text_of (letters_of table.now + 1) patterns.now)) }
 {
-    match table_text(alloc, source.table.letters() + 1, &source.patterns) {
+    match table_text(alloc, table.letters() + 1, patterns) {
         Ok(text) => {
-            let outputs = write_table(alloc, name, text, source)?;
+            let outputs = write_table(alloc, name, text, table, patterns)?;
             Ok(outputs)
         }
-        Err(error) => Err(table_stop(error, name, &source.table, watch)),
+        Err(error) => Err(table_stop(error, name, table, watch)),
     }
 }

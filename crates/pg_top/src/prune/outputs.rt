@@ -1,21 +1,18 @@
 //! What `prune` writes and prints.
-ghost use Rattle.std.specs.Prelude.{◌≡◌, ◌+◌, ◌∷◌, [], IfOk, OnOk, ◌++◌};
+ghost use Rattle.std.specs.Prelude.{◌≡◌, ◌+◌, ◌∷◌, [], IfOk, OnOk, ◌++◌, length};
 ghost use Rattle.pg_patterns.specs.Texts.{pattern_text};
 ghost use Rattle.pg_patterns.specs.Inside.PatternMaps.{SignsUpTo};
 ghost use Rattle.pg_prune.specs.Reports.{prune_report};
 ghost use Rattle.pg_translate.specs.Alphabets.{letters_of};
 ghost use Rattle.pg_prune.specs.Prunes.{pruning_of};
 ghost use Rattle.pg_select.specs.CountedPositions.{minima_of};
-ghost use Rattle.pg_words.specs.Inside.CommandRequests.{prune_of};
-ghost use Rattle.pg_top.specs.prune.PruneRule.{ReadsBackPatterns, prune_rule};
-ghost use Rattle.pg_steps.specs.Outcomes.{Ends};
-ghost use Rattle.pg_top.specs.prune.Inside.Inputs.{HasKnownSigns, pruned_files, line_of_pruning, pruned_by};
-ghost use Rattle.pg_top.specs.prune.PruneRule.{rounds_line as rounds_line_of};
-ghost use Rattle.pg_steps.specs.Inside.writing.WritesMade.{written_names, writing_of};
-ghost use Rattle.pg_steps.specs.declared.answers.Status.TheVariants.{Done};
+ghost use Rattle.pg_steps.specs.Inside.Texts.{ending_of, writing_of};
+ghost use Rattle.pg_top.specs.Promises.{ReadsBackPatterns};
+ghost use Rattle.pg_top.specs.Pruning.{pruning_ended, rounds_line as rounds_line_of};
 ghost use Rattle.pg_types.specs.Lines.{lines};
 
-use crate::prune::inputs::PruneInputs;
+use pg_dict::Dictionary;
+use pg_patterns::PatternSet;
 use pg_prune::{Pruned, RoundObserver, prune_text, prune_watched};
 use pg_steps::{BuiltTexts, OutputFile, push_file};
 use pg_translate::Table;
@@ -103,9 +100,8 @@ fn write_pruned<'a>(
     pruned: &Pruned,
 ) -> Result<BuiltTexts<'a>, AllocError>
     requires { SignsUpTo (letters_of table.now + 1) pruned.now.patterns }
-    ensures files { IfOk result (λ made.
-        writing_of made.files.items ≡ pruned_files (prune_of names.now) table.now pruned.now) }
-    ensures lines { IfOk result (λ made. made.lines.items ≡ line_of_pruning pruned.now) }
+    ensures made { IfOk result (λ made. ending_of made
+        ≡ pruning_ended names.now.output.now names.now.report.now table.now pruned.now) }
     ensures reads_back { IfOk result (λ _. ReadsBackPatterns table.now pruned.now.patterns) }
 {
     let mut files = Vec::new(alloc);
@@ -120,27 +116,18 @@ fn write_pruned<'a>(
 pub fn make_prune<'a, W: Watch>(
     alloc: Global,
     names: &PruneNames<'a>,
-    inputs: &PruneInputs,
+    table: &Table,
+    patterns: &PatternSet,
+    dictionary: &Dictionary,
     watch: &W,
 ) -> Result<BuiltTexts<'a>, AllocError>
-    requires { HasKnownSigns inputs.now }
-    ensures made { IfOk result (λ made.
-        pruned_by (prune_of names.now)
-        inputs.now.table inputs.now.dictionary inputs.now.patterns
-        ≡ Ends Done (writing_of made.files.items) made.lines.items) }
-    ensures named { IfOk result (λ made.
-        written_names (writing_of made.files.items)
-        ≡ (prune_rule (prune_of names.now)).writes) }
-    ensures reads_back { IfOk result (λ _. ReadsBackPatterns inputs.now.table
-        (pruning_of (minima_of inputs.now.table)
-        inputs.now.dictionary inputs.now.patterns).patterns) }
+    requires { SignsUpTo (letters_of table.now + 1) patterns.now }
+    ensures made { IfOk result (λ made. ending_of made
+        ≡ pruning_ended names.now.output.now names.now.report.now table.now
+        (pruning_of (minima_of table.now) dictionary.now patterns.now)) }
+    ensures reads_back { IfOk result (λ _. ReadsBackPatterns table.now
+        (pruning_of (minima_of table.now) dictionary.now patterns.now).patterns) }
 {
-    let pruned = prune_watched(
-        alloc,
-        &inputs.dictionary,
-        &inputs.table,
-        &inputs.patterns,
-        &RoundTeller { watch },
-    )?;
-    write_pruned(alloc, names, &inputs.table, &pruned)
+    let pruned = prune_watched(alloc, dictionary, table, patterns, &RoundTeller { watch })?;
+    write_pruned(alloc, names, table, &pruned)
 }

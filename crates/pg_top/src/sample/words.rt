@@ -2,7 +2,7 @@
 ghost use Rattle.std.specs.Prelude.{◌≡◌, ◌≤◌, ◌++◌, IfOk, OnOk};
 ghost use Rattle.pg_draws.specs.DrawnNumbers.{next_state};
 ghost use Rattle.pg_words.specs.declared.limits.TheConstants.{COUNT_MAX};
-ghost use Rattle.pg_top.specs.sample.SampleRule.{ending, syllable as syllable_of, further_syllables, word as word_of_state, sample_text as text_of};
+ghost use Rattle.pg_top.specs.Sampling.{ending, syllable as syllable_of, further_syllables, word as word_of_state, sample_text as text_of};
 
 use pg_draws::Draws;
 use std::alloc::{AllocError, Global};
@@ -17,7 +17,7 @@ const VOWELS: &[u8] = b"aeiou";
 const CLOSINGS: &[u8] = b"nrs";
 
 /// Appends the end of a syllable, a consonant or nothing.
-#[tactic(auto, unfolding(crate::specs::sample::SampleRule::ending))]
+#[tactic(auto, unfolding(crate::specs::Sampling::ending))]
 fn push_ending(text: &mut Vec<u8>, draws: &mut Draws) -> Result<(), AllocError>
     ensures text { OnOk result
         (text.new.items ≡ text.old.items ++ (ending (next_state draws.old)).text) }
@@ -30,7 +30,7 @@ fn push_ending(text: &mut Vec<u8>, draws: &mut Draws) -> Result<(), AllocError>
 }
 
 /// Appends a syllable.
-#[tactic(auto, unfolding(crate::specs::sample::SampleRule::syllable))]
+#[tactic(auto, unfolding(crate::specs::Sampling::syllable))]
 fn push_syllable(text: &mut Vec<u8>, draws: &mut Draws) -> Result<(), AllocError>
     ensures text { OnOk result (text.new.items ≡ text.old.items ++ (syllable_of draws.old).text) }
     ensures state { OnOk result (draws.new ≡ (syllable_of draws.old).state) }
@@ -54,7 +54,7 @@ fn push_further(text: &mut Vec<u8>, draws: &mut Draws, count: usize) -> Result<(
 }
 
 /// Appends a word.
-#[tactic(auto, unfolding(crate::specs::sample::SampleRule::word))]
+#[tactic(auto, unfolding(crate::specs::Sampling::word))]
 fn push_word(text: &mut Vec<u8>, draws: &mut Draws) -> Result<(), AllocError>
     ensures text { OnOk result (text.new.items ≡ text.old.items ++ (word_of_state draws.old).text) }
     ensures state { OnOk result (draws.new ≡ (word_of_state draws.old).state) }

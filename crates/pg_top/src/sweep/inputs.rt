@@ -1,17 +1,18 @@
 //! What `sweep` reads.
-ghost use Rattle.std.specs.Prelude.{◌≤◌, length, IfOk};
+ghost use Rattle.std.specs.Prelude.{◌≤◌, List, length, IfOk};
+ghost use Rattle.pg_plans.specs.Plans.{Plan};
+ghost use Rattle.pg_sweep.specs.Sweeps.{Terms};
+ghost use Rattle.pg_types.specs.Parameters.{Parameters};
 ghost use Rattle.pg_words.specs.Inside.CommandRequests.{sweep_of, KeepsSweepLimits};
 ghost use Rattle.pg_types.specs.declared.limits.TheConstants.{SETS_MAX};
-ghost use Rattle.pg_top.specs.sweep.SweepRule.{sweep_rule};
-ghost use Rattle.pg_steps.specs.Inside.reading.ReadsMade.{ReadsFiles};
-ghost use Rattle.pg_top.specs.sweep.Inside.Inputs.{terms_of, HasSweepSigns};
-ghost use Rattle.pg_top.specs.sweep.Inside.AcceptedInputs.{HasSweep};
+ghost use Rattle.pg_steps.specs.Inside.Steps.{Begins};
+ghost use Rattle.pg_top.specs.Inside.Swept.{sweep_from, terms_of, HasSweepSigns};
 
 use crate::sweep::sets::read_sets;
 use pg_dict::Dictionary;
 use pg_outside::Files;
 use pg_patterns::PatternSet;
-use pg_steps::{Stop, read_lists, read_table};
+use pg_steps::{Stop, read_dictionary, read_patterns, read_table};
 use pg_translate::Table;
 use pg_types::Params;
 use pg_watch::Watch;
@@ -38,17 +39,18 @@ pub fn read_sweep<'a, F: Files, W: Watch>(
     watch: &W,
 ) -> Result<SweepInputs, Stop<'a>>
     requires { KeepsSweepLimits words.now }
-    ensures read { ReadsFiles (sweep_rule (sweep_of words.now)).reads
-        (F.shown files.old) (F.shown files.new) result
-        (λ files inputs. HasSweep files (sweep_of words.now)
-        (terms_of words.now.folds inputs) inputs.sets.items) }
+    ensures read { (next : Terms → List Parameters → Plan)
+        → Begins (sweep_from (sweep_of words.now) next) result
+        (λ inputs. next (terms_of words.now.folds inputs) inputs.sets.items)
+        (F.shown files.old) (F.shown files.new) }
     ensures signs { IfOk result HasSweepSigns }
     ensures count { IfOk result
         (λ inputs. (1 ≤ length inputs.sets.items) × (length inputs.sets.items ≤ SETS_MAX)) }
 {
     let table = read_table(alloc, words.translate, files, watch)?;
     let sets = read_sets(alloc, words.params, files, watch)?;
-    let (start, dictionary) = read_lists(alloc, &table, words.patterns, words.dict, files, watch)?;
+    let start = read_patterns(alloc, &table, words.patterns, files, watch)?;
+    let dictionary = read_dictionary(alloc, &table, words.dict, files, watch)?;
     Ok(SweepInputs {
         table,
         sets,

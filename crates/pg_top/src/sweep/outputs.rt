@@ -1,14 +1,12 @@
 //! What `sweep` writes and prints.
 ghost use Rattle.std.specs.Prelude.{◌≡◌, [], length, IfOk, ◌≤◌, ◌∷◌};
 ghost use Rattle.pg_types.specs.Lines.{lines};
-ghost use Rattle.pg_top.specs.sweep.SweepRule.{winner_line as winner_line_of};
+ghost use Rattle.pg_top.specs.Sweeping.{winner_line as winner_line_of};
 ghost use Rattle.pg_sweep.specs.Files.{sweep_file};
 ghost use Rattle.pg_words.specs.Inside.CommandRequests.{sweep_of, KeepsSweepLimits};
 ghost use Rattle.pg_types.specs.declared.limits.TheConstants.{SETS_MAX};
-ghost use Rattle.pg_steps.specs.Outcomes.{Ends};
-ghost use Rattle.pg_top.specs.sweep.Inside.Inputs.{terms_of, HasSweepSigns, line_of_sweep, outcome_of_sets};
-ghost use Rattle.pg_steps.specs.Inside.writing.WritesMade.{written_names, writing_of};
-ghost use Rattle.pg_steps.specs.declared.answers.Status.TheVariants.{Done};
+ghost use Rattle.pg_steps.specs.Inside.Texts.{ending_of, writing_of};
+ghost use Rattle.pg_top.specs.Inside.Swept.{terms_of, HasSweepSigns, line_of_sweep, sets_ended};
 
 use crate::sweep::engines::WatchedMaker;
 use crate::sweep::inputs::SweepInputs;
@@ -68,12 +66,8 @@ pub fn make_sweep<'a, W: Watch>(
     requires signs { HasSweepSigns inputs.now }
     requires count { (1 ≤ length inputs.now.sets.items)
         × (length inputs.now.sets.items ≤ SETS_MAX) }
-    ensures made { IfOk result (λ made.
-        outcome_of_sets (sweep_of words.now)
-        (terms_of words.now.folds inputs.now) inputs.now.sets.items
-        ≡ Ends Done (writing_of made.files.items) made.lines.items) }
-    ensures named { IfOk result (λ made.
-        written_names (writing_of made.files.items) ≡ words.now.output.now ∷ []) }
+    ensures { IfOk result (λ made. ending_of made ≡ sets_ended (sweep_of words.now)
+        (terms_of words.now.folds inputs.now) inputs.now.sets.items) }
 {
     let maker = WatchedMaker::new(&inputs.sets, words.folds, watch);
     let found = sweep(

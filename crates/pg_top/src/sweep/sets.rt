@@ -1,10 +1,11 @@
 //! The parameter files of `sweep`, read one after the other.
-ghost use Rattle.std.specs.Prelude.{◌≡◌, ◌≤◌, length, IfOk};
+ghost use Rattle.std.specs.Prelude.{◌≡◌, ◌≤◌, List, length, IfOk};
 ghost use Rattle.pg_words.specs.Inside.Names.{arguments_of};
 ghost use Rattle.pg_types.specs.declared.limits.TheConstants.{SETS_MAX};
-ghost use Rattle.pg_steps.specs.Inside.reading.ReadsMade.{ReadsFiles};
-ghost use Rattle.pg_top.specs.sweep.SweepRule.{set_files};
-ghost use Rattle.pg_top.specs.sweep.Inside.AcceptedInputs.{HasSets};
+ghost use Rattle.pg_types.specs.Parameters.{Parameters};
+ghost use Rattle.pg_plans.specs.Plans.{Plan};
+ghost use Rattle.pg_steps.specs.Inside.Steps.{Begins};
+ghost use Rattle.pg_top.specs.Sweeping.{sets_from};
 
 use pg_outside::Files;
 use pg_steps::{Input, Stop, read_parameters};
@@ -20,9 +21,9 @@ pub fn read_sets<'a, F: Files, W: Watch>(
     watch: &W,
 ) -> Result<Vec<Params>, Stop<'a>>
     requires { length names.now ≤ SETS_MAX }
-    ensures read { ReadsFiles (set_files 1 (arguments_of names.now))
-        (F.shown files.old) (F.shown files.new) result
-        (λ files sets. HasSets files (arguments_of names.now) sets.items) }
+    ensures read { (next : List Parameters → Plan)
+        → Begins (sets_from 1 (arguments_of names.now) next) result
+        (λ sets. next sets.items) (F.shown files.old) (F.shown files.new) }
     ensures count { IfOk result (λ sets. length sets.items ≡ length names.now) }
 {
     let mut sets = Vec::new(alloc);

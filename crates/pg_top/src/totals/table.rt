@@ -1,17 +1,16 @@
 //! A packed table that is read, and the totals by it.
-ghost use Rattle.std.specs.Prelude.{◌≡◌, ◌+◌, IfOk, IfErr, IfSome, [], ◌∷◌};
+ghost use Rattle.std.specs.Prelude.{◌≡◌, ◌+◌, IfOk, []};
 ghost use Rattle.pg_types.specs.ValuesOrRefusals.{refusal_at};
 ghost use Rattle.pg_dict.specs.Inside.SoundWords.{SignsAtMost};
 ghost use Rattle.pg_driver.specs.Inside.records.SoundRecords.{IsSmall};
-ghost use Rattle.pg_outside.specs.Content.{file_at};
-ghost use Rattle.pg_outside.specs.FilesCalls.{Reads};
+ghost use Rattle.pg_plans.specs.Plans.{Ending};
+ghost use Rattle.pg_plans.specs.declared.answers.Status.TheVariants.{Done};
 ghost use Rattle.pg_texts.specs.ReportTexts.{ending_text};
 ghost use Rattle.pg_translate.specs.Alphabets.{letters_of};
-ghost use Rattle.pg_steps.specs.FileCalls.{MakesCalls};
-ghost use Rattle.pg_top.specs.totals.TotalsRule.{packed_table};
-ghost use Rattle.pg_steps.specs.Readings.{input_file};
-ghost use Rattle.pg_top.specs.totals.Inside.Inputs.{IsTotalled};
-ghost use Rattle.pg_steps.specs.Inside.ends.Stops.{OnlyReads, StopsAt};
+ghost use Rattle.pg_steps.specs.InputPlans.{input as input_plan};
+ghost use Rattle.pg_steps.specs.Inside.Steps.{Begins};
+ghost use Rattle.pg_top.specs.Totalling.{packed_table};
+ghost use Rattle.pg_top.specs.Inside.Totalled.{totals_end};
 
 use pg_dict::Dictionary;
 use pg_outside::Files;
@@ -72,13 +71,9 @@ pub fn total_by<'a, F: Files, W: Watch>(
     watch: &W,
 ) -> Result<Vec<u8>, Stop<'a>>
     requires { SignsAtMost (letters_of table.now + 1) dictionary.now }
-    ensures only { OnlyReads (F.shown files.old) (F.shown files.new) }
-    ensures calls { MakesCalls (F.shown files.old) (F.shown files.new) (Reads name.now ∷ []) }
-    ensures ok { IfOk result (λ lines. IfSome (F.shown files.new).held (λ files.
-        IsTotalled table.now dictionary.now (file_at files) name.now lines.items)) }
-    ensures stopped { IfErr result
-        (StopsAt (input_file Input.Table name.now (packed_table table.now))
-        (F.shown files.old) (F.shown files.new)) }
+    ensures { Begins (input_plan Input.Table name.now (packed_table table.now)
+        (totals_end table.now dictionary.now)) result (λ lines. Ending Done [] lines.items)
+        (F.shown files.old) (F.shown files.new) }
 {
     let bytes = read_front(alloc, name, TABLE_MAX, files, watch)?;
     match open_table(&bytes, table) {

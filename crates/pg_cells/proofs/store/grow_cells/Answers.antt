@@ -10,23 +10,19 @@ pub grow-preserved : goal.grow-preserved
 grow-preserved g c =
     let row = c.in_ok-push_cell.ensures.row in
     record {
-      linked = c.in_ok-push_cell.ensures.linked;
       small = omega (arith, longer_once c.grow.cells.items c.push_cell.new.cells.items c.args.value row);
       extends = extended_once (row_of c.args.cells.now.items) c.grow.cells.items c.push_cell.new.cells.items c.args.value c.grow.invariant.extends row;
       within = λ under. omega (arith, longer_once c.grow.cells.items c.push_cell.new.cells.items c.args.value row);
     }
 
 pub grow-init : goal.grow-init
-grow-init g c = record { linked = c.requires.linked; small = c.requires.small; extends = extends_same (row_of c.args.cells.now.items); within = λ under. under }
+grow-init g c = record { small = c.requires; extends = extends_same (row_of c.args.cells.now.items); within = λ under. under }
 
 pub grow-smaller : goal.grow-smaller
 grow-smaller g c = let more = longer_once c.grow.cells.items c.push_cell.new.cells.items c.args.value c.in_ok-push_cell.ensures.row in omega arith
 
-pub returns-then-count-ge-CELLS_END-clause-linked : goal.returns-then-count-ge-CELLS_END-clause-linked
-returns-then-count-ge-CELLS_END-clause-linked g c = c.requires.linked
-
 pub returns-then-count-ge-CELLS_END-clause-small : goal.returns-then-count-ge-CELLS_END-clause-small
-returns-then-count-ge-CELLS_END-clause-small g c = c.requires.small
+returns-then-count-ge-CELLS_END-clause-small g c = c.requires
 
 pub returns-then-count-ge-CELLS_END-clause-extends : goal.returns-then-count-ge-CELLS_END-clause-extends
 returns-then-count-ge-CELLS_END-clause-extends g c = extends_itself (row_of c.args.cells.now.items)
@@ -34,18 +30,9 @@ returns-then-count-ge-CELLS_END-clause-extends g c = extends_itself (row_of c.ar
 pub returns-then-count-ge-CELLS_END-clause-length : goal.returns-then-count-ge-CELLS_END-clause-length
 returns-then-count-ge-CELLS_END-clause-length g c = tt
 
-pub push_cell-requires-clause-linked : goal.push_cell-requires-clause-linked
-push_cell-requires-clause-linked g c = c.grow.invariant.linked
-
-pub returns-in_err-push_cell-clause-linked : goal.returns-in_err-push_cell-clause-linked
-returns-in_err-push_cell-clause-linked g c = c.in_err-push_cell.ensures.linked
-
 pub returns-in_err-push_cell-clause-extends : goal.returns-in_err-push_cell-clause-extends
 returns-in_err-push_cell-clause-extends g c = subst (λ (cells : List (Cell g.row.V.Denot)). Extends (row_of c.args.cells.now.items) (row_of cells))
     (sym c.in_err-push_cell.ensures.err) c.grow.invariant.extends
-
-pub returns-clause-linked : goal.returns-clause-linked
-returns-clause-linked g c = c.grow.invariant.linked
 
 pub returns-clause-small : goal.returns-clause-small
 returns-clause-small g c = c.grow.invariant.small

@@ -11,12 +11,6 @@ pub record Row (V : Type 0) : Type 0 where
   pub values : List V
   pub bases : List Bool
 
--- a row, and the links of the free cells
-pub record LinkedRow (V : Type 0) : Type 0 where
-  pub row : Row V
-  pub befores : List ℕ
-  pub afters : List ℕ
-
 -- the sign in `signs` of a cell; 0 in a free cell
 abbrev pub sign_in : ℕ → ℕ
 sign_in signs = if nat_eq (signs % SIGN_AT) 0 then 0 else signs / SIGN_AT % SIGN_COUNT + 1
@@ -59,14 +53,6 @@ module _ {V : Type 0} where
   abbrev pub base_at : Row V → ℕ → Bool
   base_at r cell = get_or r.bases cell false
 
-  -- the free cell before a free cell; 0 past the end
-  abbrev pub before_at : LinkedRow V → ℕ → ℕ
-  before_at ls cell = get_or ls.befores cell 0
-
-  -- the free cell after a free cell, where 0 ends the list; 0 past the end
-  abbrev pub after_at : LinkedRow V → ℕ → ℕ
-  after_at ls cell = get_or ls.afters cell 0
-
   -- the sign of a cell; 0 in a free one
   abbrev pub sign_seen : Cell V → ℕ
   sign_seen c = sign_in c.signs
@@ -79,7 +65,7 @@ module _ {V : Type 0} where
   abbrev pub link_seen : Cell V → ℕ
   link_seen c = link_in c.links
 
-  -- the base of the child family; a free cell has none, since its link is to a free cell
+  -- the base of the child family; a free cell has none
   abbrev pub child_seen : Cell V → ℕ
   child_seen c = if nat_eq (sign_seen c) 0 then 0 else link_seen c
 
@@ -102,10 +88,6 @@ module _ {V : Type 0} where
   member_seen c = if nat_eq (sign_seen c) 0 then without_links c.value
       else record { value = c.value; next = next_in c.signs; first = first_in c.signs c.links }
 
-  -- the free cell before a free one; 0 for a taken one, which has signs there
-  abbrev pub before_seen : Cell V → ℕ
-  before_seen c = if nat_eq (sign_seen c) 0 then c.signs / SIGN_AT else 0
-
   -- the row of these cells: what the families see of them
   abbrev pub row_of : List (Cell V) → Row (Member V)
   row_of cells = record {
@@ -114,22 +96,6 @@ module _ {V : Type 0} where
     values = map member_seen cells;
     bases = map base_seen cells;
   }
-
-  -- the row of these cells, and the links of the free ones
-  abbrev pub linked_row : List (Cell V) → LinkedRow (Member V)
-  linked_row cells = record {
-    row = row_of cells;
-    befores = map before_seen cells;
-    afters = map link_seen cells;
-  }
-
-  -- the linked row when `before` is set as the free cell before a cell
-  abbrev pub with_before : LinkedRow V → ℕ → ℕ → LinkedRow V
-  with_before ls cell before = record ls { befores = set ls.befores cell before }
-
-  -- the linked row when `after` is set as the free cell after a cell
-  abbrev pub with_after : LinkedRow V → ℕ → ℕ → LinkedRow V
-  with_after ls cell after = record ls { afters = set ls.afters cell after }
 
   -- the row when a taken cell has this base of a child family
   abbrev pub with_child : Row V → ℕ → ℕ → Row V

@@ -4,9 +4,8 @@ use Rattle.std.specs.Coded.{Coded, code_by, coded×, coded_ℕ, coded_bool, code
 use Rattle.pg_cells.specs.declared.store.cell.Cell.{Cell}
 use Rattle.pg_cells.specs.declared.store.cell.TheConstants.{CELLS_END, SIGN_COUNT}
 use Rattle.pg_cells.specs.declared.store.member.Member.{Member}
-use Rattle.pg_cells.specs.Inside.store.CellRows.{Row, linked_row, row_of, sign_at, child_at, base_at}
+use Rattle.pg_cells.specs.Inside.store.CellRows.{Row, row_of, sign_at, child_at, base_at}
 use Rattle.pg_cells.specs.declared.store.bit_set.BitSet.{BitSet}
-use Rattle.pg_cells.specs.Inside.store.FreeList.{AreLinked}
 use Rattle.pg_cells.specs.Inside.store.SetFit.{AreRowSets}
 use Rattle.pg_cells.specs.Inside.store.BlockedBases.{AreBlocked}
 use Rattle.pg_cells.specs.Inside.store.Bounds.{AreBounds}
@@ -45,9 +44,8 @@ module _ {V : Type 0} where
   taken_in r = how_many r.signs
 
 module _ {V : Type 0} where
-  -- the free cells are linked, `top` is the greatest taken cell, and `taken` cells are taken
+  -- `top` is the greatest taken cell, and `taken` cells are taken
   pub record IsKept (cells : List (Cell V)) (top taken : ℕ) : Type 0 where
-    pub linked : AreLinked (linked_row cells)
     pub small : length cells < CELLS_END
     pub greatest : IsTop (row_of cells).signs top
     pub count : taken ≡ taken_in (row_of cells)
@@ -78,6 +76,11 @@ module _ {V : Type 0} where
     pub bases : (i : ℕ) → base_at new i ≡ base_at old i
     pub values : (i : ℕ) → i < length old.signs → slice_get new.values i ≡ slice_get old.values i
     pub taken : taken_in new ≡ taken_in old
+
+  -- the cells below i are free and are no bases
+  pub record AreFreeTo (i : ℕ) (r : Row V) : Type 0 where
+    pub signs : (j : ℕ) → j < i → get_or r.signs j 1 ≡ 0
+    pub bases : (j : ℕ) → j < i → base_at r j ≡ false
 
   -- one free cell
   abbrev pub one_free : V → Row V

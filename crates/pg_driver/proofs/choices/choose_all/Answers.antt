@@ -1,17 +1,18 @@
-use Rattle.std.proofs.Common.{◌≡◌, ℕ, ◌+◌, ◌<◌, ◌≤◌, List, [], ◌∷◌, length, map, drop, get_or, slice_get, Some, refl, sym, ap, subst, ◌∙◌, arith}
+use Rattle.std.proofs.Common.{◌≡◌, ℕ, ◌+◌, ◌<◌, ◌≤◌, List, [], ◌∷◌, length, map, drop, get_or, slice_get, Option, Some, inr, refl, sym, ap, subst, ◌∙◌, arith}
 use Rattle.std.specs.List.{sum_by}
 use Rattle.std.proofs.lemmas.List.{length-map, drop_all, drop_more}
 use Rattle.std.proofs.lemmas.List.Sums.{sum_by-cons}
 use Rattle.std.proofs.lemmas.Option.{slice_get_within}
-use Rattle.pg_types.specs.Inside.counting.Counts.{Counts, counted_sums, is_counted}
+use Rattle.pg_types.specs.Inside.Signs.{SignsWithin}
+use Rattle.pg_types.specs.Inside.counting.Counts.{Counts}
+use Rattle.pg_starts.specs.Inside.StartCountings.{counts_in, windows_in}
 use Rattle.pg_select.specs.Inside.Choices.{choice}
-use Rattle.pg_types.specs.Inside.counting.NumberedWindows.{HasNumber}
 use Rattle.pg_select.specs.Inside.engine.Meanings.{Meaning}
 use Rattle.pg_select.specs.CountedPositions.{Candidate}
 use Rattle.pg_driver.specs.declared.choices.Choices.{Choices}
 use Rattle.pg_driver.specs.Inside.choices.Choosing.{HasChosen, with_candidates, candidate_of}
-use Rattle.pg_driver.specs.Inside.choices.LookAhead.{AreSeen, AreThere}
-use Rattle.pg_driver.specs.Inside.level.PassWindows.{IsCandidate}
+use Rattle.pg_driver.specs.Inside.choices.LookAhead.{AreSeen}
+use Rattle.pg_driver.specs.Inside.level.PassWindows.{IsCandidate, fate_of_sums}
 use Rattle.pg_driver.specs.Inside.level.States.{state_of}
 use Rattle.pg_driver.proofs.ChoiceSteps.{bad_adds, bad_within, good_adds, good_within, keeps_on, numbers_append, state_none, state_step, state_with}
 use Rattle.pg_driver.proofs.NumberSteps.{Ahead, ahead, only_one, order_there, part_whole}
@@ -23,41 +24,49 @@ candidates-init g c =
     let m = g.E.Engine.meaning c.args.engine.now in
     record {
       kept = refl;
-      rest = m.counts;
+      rest = (counts_in c.args.signs.now c.args.counts.now);
       ahead = c.requires.order;
-      part = part_whole m.counts c.requires.room.sorted;
+      part = part_whole (counts_in c.args.signs.now c.args.counts.now) c.requires.room.sorted;
       from = omega arith;
-      seen = none_seen c.args.fates.now m.windows c.args.order.now c.clear.new.self.items c.clear.ensures.items;
+      seen = none_seen c.args.fates.now (windows_in c.args.signs.now c.args.counts.now) c.args.order.now c.clear.new.self.items c.clear.ensures.items;
       state = refl;
       choices = refl;
-      few = omega (arith, length-map m.counts candidate_of, c.requires.room.few);
+      few = omega (arith, length-map (counts_in c.args.signs.now c.args.counts.now) candidate_of, c.requires.room.few);
       sound = omega arith;
-      good = omega (arith, good_within m.counts, c.requires.room.light);
-      bad = omega (arith, bad_within m.counts, c.requires.room.light);
+      good = omega (arith, good_within (counts_in c.args.signs.now c.args.counts.now), c.requires.room.light);
+      bad = omega (arith, bad_within (counts_in c.args.signs.now c.args.counts.now), c.requires.room.light);
     }
 
 pub look_ahead-requires-clause-there : goal.look_ahead-requires-clause-there
 look_ahead-requires-clause-there g c =
-    let windows = ap (λ (x : Meaning). x.windows) c.candidates.invariant.kept in
-    subst (λ (ws : List (List ℕ)). AreThere ws c.args.order.now) (sym windows)
-    (order_there (g.E.Engine.meaning c.args.engine.now).windows (g.E.Engine.meaning c.args.engine.now).counts c.args.order.now c.requires.order)
+    order_there (windows_in c.args.signs.now c.args.counts.now) (counts_in c.args.signs.now c.args.counts.now) c.args.order.now c.requires.order
+
+pub look_ahead-requires-clause-counting : goal.look_ahead-requires-clause-counting
+look_ahead-requires-clause-counting g c = c.requires.counting
+
+pub look_ahead-requires-clause-cursors : goal.look_ahead-requires-clause-cursors
+look_ahead-requires-clause-cursors g c = c.requires.cursors
+
+pub choose_one-requires-clause-counting : goal.choose_one-requires-clause-counting
+choose_one-requires-clause-counting g c = c.requires.counting
 
 pub choose_one-requires-clause-window : goal.choose_one-requires-clause-window
 choose_one-requires-clause-window g c =
-    (seen_at c.args.fates.now (g.E.Engine.meaning c.candidates.engine).windows c.args.order.now c.in_ok-from.from c.look_ahead.new.seen.items c.in_ok-from.ensures.seen
+    (seen_at c.args.fates.now (windows_in c.args.signs.now c.args.counts.now) c.args.order.now c.in_ok-from.from c.look_ahead.new.seen.items c.in_ok-from.ensures.seen
     c.candidates.k c.index.result.now c.in_ok-from.ensures.from c.in_ok-from.ensures.within c.candidates-test.true c.index.ensures).window
 
-pub choose_one-requires-clause-counted : goal.choose_one-requires-clause-counted
-choose_one-requires-clause-counted g c =
+pub choose_one-requires-clause-enter : goal.choose_one-requires-clause-enter
+choose_one-requires-clause-enter g c =
     let m0 = g.E.Engine.meaning c.args.engine.now in
     let m = g.E.Engine.meaning c.candidates.engine in
-    let windows : m.windows ≡ m0.windows = ap (λ (x : Meaning). x.windows) c.candidates.invariant.kept in
-    let counts : m.counts ≡ m0.counts = ap (λ (x : Meaning). x.counts) c.candidates.invariant.kept in
-    let seen = seen_at c.args.fates.now m.windows c.args.order.now c.in_ok-from.from c.look_ahead.new.seen.items c.in_ok-from.ensures.seen
+    let u : List ℕ = c.index.result.now.window in
+    let seen = seen_at c.args.fates.now (windows_in c.args.signs.now c.args.counts.now) c.args.order.now c.in_ok-from.from c.look_ahead.new.seen.items c.in_ok-from.ensures.seen
     c.candidates.k c.index.result.now c.in_ok-from.ensures.from c.in_ok-from.ensures.within c.candidates-test.true c.index.ensures in
-    ap (λ (es : Counts). is_counted es c.index.result.now.window) counts
-    ∙ c.requires.numbered.counted c.index.result.now.window (get_or c.args.order.now c.candidates.k 0)
-    (subst (λ (ws : List (List ℕ)). HasNumber ws c.index.result.now.window (get_or c.args.order.now c.candidates.k 0)) windows seen.window)
+    let can = c.requires.enter u (get_or c.args.order.now c.candidates.k 0) seen.window in
+    inr (
+      can.0 ∙ sym (ap (λ (x : Meaning). x.pass.len) c.candidates.invariant.kept),
+      subst (λ n. SignsWithin n u) (sym (ap (λ (x : Meaning). x.signs) c.candidates.invariant.kept)) can.1,
+    )
 
 pub choose_one-requires-clause-fate : goal.choose_one-requires-clause-fate
 choose_one-requires-clause-fate g c = λ u sums it.
@@ -67,16 +76,24 @@ choose_one-requires-clause-fate g c = λ u sums it.
     let n = get_or c.args.order.now k 0 in
     let more : List ℕ = drop (k + 1) c.args.order.now in
     let inv = c.candidates.invariant in
-    let windows : m.windows ≡ m0.windows = ap (λ (x : Meaning). x.windows) inv.kept in
-    let counts : m.counts ≡ m0.counts = ap (λ (x : Meaning). x.counts) inv.kept in
-    let a : Ahead m0.windows m0.counts n more inv.rest = ahead m0.windows m0.counts n more inv.rest
-    (sym (ap (map (slice_get m0.windows)) (drop_more c.args.order.now k 0 c.candidates-test.true)) ∙ inv.ahead) inv.part in
-    let there : n < length m0.windows = slice_get_within m0.windows n a.entry.0 a.number in
-    let seen = seen_at c.args.fates.now m.windows c.args.order.now c.in_ok-from.from c.look_ahead.new.seen.items c.in_ok-from.ensures.seen k c.index.result.now
+    let a : Ahead (windows_in c.args.signs.now c.args.counts.now) (counts_in c.args.signs.now c.args.counts.now) n more inv.rest = ahead (windows_in c.args.signs.now c.args.counts.now) (counts_in c.args.signs.now c.args.counts.now) n more inv.rest
+    (sym (ap (map (slice_get (windows_in c.args.signs.now c.args.counts.now))) (drop_more c.args.order.now k 0 c.candidates-test.true)) ∙ inv.ahead) inv.part in
+    let there : n < length (windows_in c.args.signs.now c.args.counts.now) = slice_get_within (windows_in c.args.signs.now c.args.counts.now) n a.entry.0 a.number in
+    let seen = seen_at c.args.fates.now (windows_in c.args.signs.now c.args.counts.now) c.args.order.now c.in_ok-from.from c.look_ahead.new.seen.items c.in_ok-from.ensures.seen k c.index.result.now
     c.in_ok-from.ensures.from c.in_ok-from.ensures.within c.candidates-test.true c.index.ensures in
     let both : Some c.index.result.now.fate ≡ Some (choice c.args.params.now sums.0 sums.1) =
-    sym seen.fate ∙ c.requires.fates.each u n sums (subst (λ (ws : List (List ℕ)). HasNumber ws u n) windows it.number) (ap (λ (es : Counts). counted_sums es u) (sym counts) ∙ it.sums) in
+    sym seen.fate ∙ c.requires.fates.each u n it.number ∙ ap (λ (o : Option (ℕ × ℕ)). Some (fate_of_sums c.args.params.now o)) it.sums in
     cc
+
+pub choose_one-requires-clause-there : goal.choose_one-requires-clause-there
+choose_one-requires-clause-there g c =
+    let k = c.candidates.k in
+    let n = get_or c.args.order.now k 0 in
+    let more : List ℕ = drop (k + 1) c.args.order.now in
+    let inv = c.candidates.invariant in
+    let a : Ahead (windows_in c.args.signs.now c.args.counts.now) (counts_in c.args.signs.now c.args.counts.now) n more inv.rest = ahead (windows_in c.args.signs.now c.args.counts.now) (counts_in c.args.signs.now c.args.counts.now) n more inv.rest
+    (sym (ap (map (slice_get (windows_in c.args.signs.now c.args.counts.now))) (drop_more c.args.order.now k 0 c.candidates-test.true)) ∙ inv.ahead) inv.part in
+    (a.entry.0, a.entry.1, record { number = a.number; sums = a.sums })
 
 pub choose_one-requires-clause-sums : goal.choose_one-requires-clause-sums
 choose_one-requires-clause-sums g c = λ u sums it.
@@ -86,14 +103,12 @@ choose_one-requires-clause-sums g c = λ u sums it.
     let n = get_or c.args.order.now k 0 in
     let more : List ℕ = drop (k + 1) c.args.order.now in
     let inv = c.candidates.invariant in
-    let windows : m.windows ≡ m0.windows = ap (λ (x : Meaning). x.windows) inv.kept in
-    let counts : m.counts ≡ m0.counts = ap (λ (x : Meaning). x.counts) inv.kept in
-    let a : Ahead m0.windows m0.counts n more inv.rest = ahead m0.windows m0.counts n more inv.rest
-    (sym (ap (map (slice_get m0.windows)) (drop_more c.args.order.now k 0 c.candidates-test.true)) ∙ inv.ahead) inv.part in
-    let there : n < length m0.windows = slice_get_within m0.windows n a.entry.0 a.number in
+    let a : Ahead (windows_in c.args.signs.now c.args.counts.now) (counts_in c.args.signs.now c.args.counts.now) n more inv.rest = ahead (windows_in c.args.signs.now c.args.counts.now) (counts_in c.args.signs.now c.args.counts.now) n more inv.rest
+    (sym (ap (map (slice_get (windows_in c.args.signs.now c.args.counts.now))) (drop_more c.args.order.now k 0 c.candidates-test.true)) ∙ inv.ahead) inv.part in
+    let there : n < length (windows_in c.args.signs.now c.args.counts.now) = slice_get_within (windows_in c.args.signs.now c.args.counts.now) n a.entry.0 a.number in
     let is : map candidate_of inv.rest ≡ candidate_of a.entry ∷ map candidate_of a.left = ap (λ (es : Counts). map candidate_of es) a.is in
-    let same = only_one m0.windows m0.counts n a.entry.0 a.entry.1 u sums a.number a.sums (subst (λ (ws : List (List ℕ)). HasNumber ws u n) windows it.number)
-    (ap (λ (es : Counts). counted_sums es u) (sym counts) ∙ it.sums) in (
+    let same = only_one (windows_in c.args.signs.now c.args.counts.now) (counts_in c.args.signs.now c.args.counts.now) n a.entry.0 a.entry.1 u sums a.number a.sums it.number
+    it.sums in (
       omega (
         arith,
         ap (λ (s : ℕ × ℕ). s.0) same,
@@ -118,11 +133,9 @@ choose_one-requires-clause-few g c =
     let n = get_or c.args.order.now k 0 in
     let more : List ℕ = drop (k + 1) c.args.order.now in
     let inv = c.candidates.invariant in
-    let windows : m.windows ≡ m0.windows = ap (λ (x : Meaning). x.windows) inv.kept in
-    let counts : m.counts ≡ m0.counts = ap (λ (x : Meaning). x.counts) inv.kept in
-    let a : Ahead m0.windows m0.counts n more inv.rest = ahead m0.windows m0.counts n more inv.rest
-    (sym (ap (map (slice_get m0.windows)) (drop_more c.args.order.now k 0 c.candidates-test.true)) ∙ inv.ahead) inv.part in
-    let there : n < length m0.windows = slice_get_within m0.windows n a.entry.0 a.number in
+    let a : Ahead (windows_in c.args.signs.now c.args.counts.now) (counts_in c.args.signs.now c.args.counts.now) n more inv.rest = ahead (windows_in c.args.signs.now c.args.counts.now) (counts_in c.args.signs.now c.args.counts.now) n more inv.rest
+    (sym (ap (map (slice_get (windows_in c.args.signs.now c.args.counts.now))) (drop_more c.args.order.now k 0 c.candidates-test.true)) ∙ inv.ahead) inv.part in
+    let there : n < length (windows_in c.args.signs.now c.args.counts.now) = slice_get_within (windows_in c.args.signs.now c.args.counts.now) n a.entry.0 a.number in
     let is : map candidate_of inv.rest ≡ candidate_of a.entry ∷ map candidate_of a.left = ap (λ (es : Counts). map candidate_of es) a.is in
     omega (arith, ap (λ (cs : List Candidate). length cs) is, inv.few)
 
@@ -134,20 +147,15 @@ candidates-preserved g c =
     let n = get_or c.args.order.now k 0 in
     let more : List ℕ = drop (k + 1) c.args.order.now in
     let inv = c.candidates.invariant in
-    let windows : m.windows ≡ m0.windows = ap (λ (x : Meaning). x.windows) inv.kept in
-    let counts : m.counts ≡ m0.counts = ap (λ (x : Meaning). x.counts) inv.kept in
-    let a : Ahead m0.windows m0.counts n more inv.rest = ahead m0.windows m0.counts n more inv.rest
-    (sym (ap (map (slice_get m0.windows)) (drop_more c.args.order.now k 0 c.candidates-test.true)) ∙ inv.ahead) inv.part in
-    let there : n < length m0.windows = slice_get_within m0.windows n a.entry.0 a.number in
+    let a : Ahead (windows_in c.args.signs.now c.args.counts.now) (counts_in c.args.signs.now c.args.counts.now) n more inv.rest = ahead (windows_in c.args.signs.now c.args.counts.now) (counts_in c.args.signs.now c.args.counts.now) n more inv.rest
+    (sym (ap (map (slice_get (windows_in c.args.signs.now c.args.counts.now))) (drop_more c.args.order.now k 0 c.candidates-test.true)) ∙ inv.ahead) inv.part in
+    let there : n < length (windows_in c.args.signs.now c.args.counts.now) = slice_get_within (windows_in c.args.signs.now c.args.counts.now) n a.entry.0 a.number in
     let is : map candidate_of inv.rest ≡ candidate_of a.entry ∷ map candidate_of a.left = ap (λ (es : Counts). map candidate_of es) a.is in
     let after = g.E.Engine.meaning c.choose_one.new.engine in
     let params = c.args.params.now in
     let first : Candidate = candidate_of a.entry in
     let rest : List Candidate = map candidate_of a.left in
-    let it : IsCandidate m n a.entry.0 a.entry.1 = record {
-      number = subst (λ (ws : List (List ℕ)). HasNumber ws a.entry.0 n) (sym windows) a.number;
-      sums = ap (λ (es : Counts). counted_sums es a.entry.0) counts ∙ a.sums;
-    } in
+    let it : IsCandidate c.args.signs.now c.args.counts.now n a.entry.0 a.entry.1 = record { number = a.number; sums = a.sums } in
     let ok : HasChosen params (first ∷ []) m after = c.in_ok-choose_one.ensures.ok a.entry.0 a.entry.1 it in
     let chosen : c.choose_one.new.choices ≡ with_candidates params c.candidates.choices (first ∷ []) = c.in_ok-choose_one.ensures.choices a.entry.0 a.entry.1 it in
     record {
@@ -156,7 +164,7 @@ candidates-preserved g c =
       ahead = a.next;
       part = a.part;
       from = (let low = c.in_ok-from.ensures.from in omega arith);
-      seen = subst (λ (ws : List (List ℕ)). AreSeen c.args.fates.now ws c.args.order.now c.in_ok-from.from c.look_ahead.new.seen.items) windows c.in_ok-from.ensures.seen;
+      seen = c.in_ok-from.ensures.seen;
       state =
           state_step m0 m after params first rest _ inv.kept ok
           (ap (λ (cs : List Candidate). state_with m0.signs params m0.pass (state_of m) cs) (sym is) ∙ inv.state);
@@ -186,7 +194,7 @@ candidates-preserved g c =
     }
 
 pub look_ahead-requires-clause-fates : goal.look_ahead-requires-clause-fates
-look_ahead-requires-clause-fates g c = c.requires.fates.size ∙ sym (ap (λ (x : Meaning). length x.windows) c.candidates.invariant.kept)
+look_ahead-requires-clause-fates g c = c.requires.fates.size
 
 pub look_ahead-requires-clause-within : goal.look_ahead-requires-clause-within
 look_ahead-requires-clause-within g c = c.candidates-test.true
@@ -195,9 +203,7 @@ pub look_ahead-requires-clause-from : goal.look_ahead-requires-clause-from
 look_ahead-requires-clause-from g c = c.candidates.invariant.from
 
 pub look_ahead-requires-clause-seen : goal.look_ahead-requires-clause-seen
-look_ahead-requires-clause-seen g c =
-    subst (λ (ws : List (List ℕ)). AreSeen c.args.fates.now ws c.args.order.now c.candidates.from c.candidates.seen.items)
-    (sym (ap (λ (x : Meaning). x.windows) c.candidates.invariant.kept)) c.candidates.invariant.seen
+look_ahead-requires-clause-seen g c = c.candidates.invariant.seen
 
 pub index-requires : goal.index-requires
 index-requires g c = (let low = c.in_ok-from.ensures.from in let high = c.in_ok-from.ensures.within in omega arith)
@@ -228,7 +234,7 @@ returns-clause-ok g c =
     let m = g.E.Engine.meaning c.candidates.engine in
     let params = c.args.params.now in
     let inv = c.candidates.invariant in
-    let none : inv.rest ≡ [] = none_left m0.windows c.args.order.now c.candidates.k inv.rest c.candidates-test.false inv.ahead in
+    let none : inv.rest ≡ [] = none_left (windows_in c.args.signs.now c.args.counts.now) c.args.order.now c.candidates.k inv.rest c.candidates-test.false inv.ahead in
     record {
       state =
           sym (state_none m0.signs params m0.pass (state_of m))
@@ -247,7 +253,7 @@ pub returns-clause-choices : goal.returns-clause-choices
 returns-clause-choices g c =
     let params = c.args.params.now in
     let inv = c.candidates.invariant in
-    let none : inv.rest ≡ [] = none_left (g.E.Engine.meaning c.args.engine.now).windows c.args.order.now c.candidates.k inv.rest c.candidates-test.false inv.ahead in
+    let none : inv.rest ≡ [] = none_left (windows_in c.args.signs.now c.args.counts.now) c.args.order.now c.candidates.k inv.rest c.candidates-test.false inv.ahead in
     numbers_none c.candidates.choices
     ∙ ap (λ (es : Counts). with_candidates params c.candidates.choices (map candidate_of es)) (sym none)
     ∙ inv.choices

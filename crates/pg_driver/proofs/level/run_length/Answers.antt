@@ -6,6 +6,7 @@ use Rattle.pg_driver.specs.Inside.records.RunAccounts.{known_of}
 use Rattle.pg_driver.specs.Traces.{source_of}
 use Rattle.pg_driver.specs.Inside.level.Passes.{known_at_end, passes_of_length}
 use Rattle.pg_driver.proofs.LevelSteps.{all_from, at_whole, none_from, pass_with, passes_from, passes_step, reaches_on}
+use Rattle.pg_driver.proofs.StartSteps.{has_size, known_in}
 use Rattle.pg_driver.specs.Dots.{dot_at}
 use Rattle.pg_driver.proofs.level.run_length.Goals as goal
 
@@ -21,6 +22,7 @@ dots-init g c =
         known = ap (λ (passes : List Pass). known_at_end (known_of m0) (all_made_by source c.args.params.now m0 passes)) (all_from c.args.number c.args.len);
       };
       ready = c.requires.ready;
+      numbers = c.in_ok-number.ensures.numbers;
       here = refl;
       will = c.requires.counts;
       counted = λ some. absurd (omega arith);
@@ -52,6 +54,7 @@ dots-preserved g c =
           (passes_from number len k (len + 1)) (pass_with number len (dot_at len k) ∷ []) (passes_from number len (k + 1) (len + 1)) (ps ++ all) (known_at_end (known_of m0) all)
           (passes_step number len k (len + 1) c.dots-test.true) on (c.dots.invariant.reaches start ps at);
       ready = c.in_ok-run_or_skip.ensures.ready;
+      numbers = c.in_ok-run_or_skip.ensures.numbers;
       here = c.in_ok-run_or_skip.ensures.here ∙ c.dots.invariant.here;
       will = inr (c.in_ok-run_or_skip.ensures.counted c.dots.invariant.will);
       counted = λ _. c.in_ok-run_or_skip.ensures.counted c.dots.invariant.will;
@@ -114,3 +117,22 @@ returns-clause-ready g c = c.dots.invariant.ready
 
 pub returns-clause-signs : goal.returns-clause-signs
 returns-clause-signs g c = c.dots.invariant.signs
+
+pub run_or_skip-requires-clause-numbers : goal.run_or_skip-requires-clause-numbers
+run_or_skip-requires-clause-numbers g c = c.dots.invariant.numbers
+
+pub number-requires-clause-len : goal.number-requires-clause-len
+number-requires-clause-len g c = c.requires.len
+
+pub number-requires-clause-size : goal.number-requires-clause-size
+number-requires-clause-size g c =
+    has_size (source_of c.args.table.now c.args.dictionary.now) c.args.number c.args.len (known_of (g.E.Engine.meaning c.args.engine.now)) c.args.counting.now c.requires.ready
+
+pub number-requires-clause-known : goal.number-requires-clause-known
+number-requires-clause-known g c = c.requires.known
+
+pub returns-clause-known : goal.returns-clause-known
+returns-clause-known g c = known_in c.args.dictionary.now c.args.len c.dots.windows.counts.numbers c.dots.counting c.dots.invariant.numbers
+
+pub returns-in_err-number-clause-signs : goal.returns-in_err-number-clause-signs
+returns-in_err-number-clause-signs g c = refl

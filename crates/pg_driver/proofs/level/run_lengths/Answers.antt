@@ -20,6 +20,7 @@ lengths-init g c =
         known = refl;
       };
       ready = c.requires.ready c.args.params.now.pat_start;
+      numbers = c.requires.known;
       will = inl c.new-skippable.ensures.here;
       counted = λ some. absurd (omega arith);
       signs = refl;
@@ -53,6 +54,7 @@ lengths-preserved g c =
         known = reached.known;
       };
       ready = c.in_ok-next_length.ensures.ready source number len (known_of n) c.in_ok-run_length.ensures.ready;
+      numbers = c.in_ok-run_length.ensures.known;
       will = inr (c.in_ok-next_length.ensures.counted c.in_ok-run_length.ensures.counted);
       counted = λ _. c.in_ok-next_length.ensures.counted c.in_ok-run_length.ensures.counted;
       signs = c.in_ok-run_length.ensures.signs ∙ c.lengths.invariant.signs;
@@ -142,3 +144,9 @@ returns-clause-signs g c = c.lengths.invariant.signs
 
 pub overflow_add-end : goal.overflow_add-end
 overflow_add-end g c = omega (arith, c.requires.level.finish_high)
+
+pub run_length-requires-clause-known : goal.run_length-requires-clause-known
+run_length-requires-clause-known g c = c.lengths.invariant.numbers
+
+pub returns-clause-known : goal.returns-clause-known
+returns-clause-known g c = c.lengths.invariant.numbers

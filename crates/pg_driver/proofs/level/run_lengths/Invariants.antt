@@ -1,4 +1,6 @@
 use Rattle.std.proofs.Common.{◌≡◌, ◌+◌, ◌*◌, ◌^◌, ◌≤◌, ◌<◌}
+use Rattle.pg_dict.specs.Inside.Store.{all_signs}
+use Rattle.pg_starts.specs.Inside.Known.{AreKnown}
 use Rattle.pg_driver.specs.Inside.counting.LevelCounting.{IsCounted, IsReady}
 use Rattle.pg_driver.specs.Inside.level.Levels.{WillCount, all_made_by}
 use Rattle.pg_driver.specs.Inside.records.RunAccounts.{known_of}
@@ -17,6 +19,7 @@ invariant-lengths g l =
       reaches : Reaches source l.params l.number l.len (record { engine = m0; records = l.fn.records }) m l.records l.skippable (lengths_from l.number l.len
           l.end) all (known_at_end (known_of m0) all);
       ready : IsReady source l.number l.len (known_of m) l.counting;
+      numbers : AreKnown (all_signs l.dictionary) l.windows.counts.numbers;
       will : WillCount l.skippable l.counting;
       counted : l.params.pat_start < l.len → IsCounted l.counting;
       signs : m.signs ≡ m0.signs;

@@ -96,3 +96,9 @@ end_level-requires-2 g c = subst IsSmall (sym c.totals-after.ensures) c.in_ok-ru
 
 pub returns-in_err-end_level-clause-signs : goal.returns-in_err-end_level-clause-signs
 returns-in_err-end_level-clause-signs g c = ap (λ (x : Meaning). x.signs) c.in_err-end_level.ensures.err ∙ c.run_lengths.ensures.signs
+
+pub run_lengths-requires-clause-known : goal.run_lengths-requires-clause-known
+run_lengths-requires-clause-known g c = c.requires.known
+
+pub returns-clause-known : goal.returns-clause-known
+returns-clause-known g c = c.in_ok-run_lengths.ensures.known

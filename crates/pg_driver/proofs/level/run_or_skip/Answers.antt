@@ -124,3 +124,12 @@ returns-in_err-add_pass-clause-here g c = c.set-2.ensures.here
 
 pub returns-in_err-add_pass-clause-signs : goal.returns-in_err-add_pass-clause-signs
 returns-in_err-add_pass-clause-signs g c = c.run_pass.ensures.signs
+
+pub returns-then-is_skippable-clause-numbers : goal.returns-then-is_skippable-clause-numbers
+returns-then-is_skippable-clause-numbers g c = c.requires.numbers
+
+pub returns-clause-numbers : goal.returns-clause-numbers
+returns-clause-numbers g c = c.in_ok-record.ensures.numbers
+
+pub run_pass-requires-clause-numbers : goal.run_pass-requires-clause-numbers
+run_pass-requires-clause-numbers g c = c.requires.numbers

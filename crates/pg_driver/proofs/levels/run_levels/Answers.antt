@@ -1,4 +1,4 @@
-use Rattle.std.proofs.Common.{◌≡◌, ℕ, ◌+◌, ◌-◌, max, List, [], Option, drop, refl, ap, subst, ◌∙◌, arith, sym}
+use Rattle.std.proofs.Common.{◌≡◌, ℕ, ◌+◌, ◌-◌, max, List, [], Option, drop, length, refl, ap, subst, ◌∙◌, arith, sym}
 use Rattle.pg_dict.specs.Inside.SoundWords.{SignsAtMost}
 use Rattle.std.specs.List.{enumerate_from}
 use Rattle.std.specs.Option.{IfSome}
@@ -6,12 +6,14 @@ use Rattle.pg_types.specs.declared.marks.Totals.{Totals}
 use Rattle.pg_types.specs.declared.parameters.LevelParams.{LevelParams}
 use Rattle.pg_patterns.specs.Values.{largest}
 use Rattle.pg_select.specs.Inside.laws.Steps.{IsUpTo}
+use Rattle.pg_starts.specs.Inside.Known.{AreKnown}
 use Rattle.pg_driver.specs.Accounts.{totals_by}
 use Rattle.pg_driver.specs.Inside.counting.LevelCounting.{HasEnded}
 use Rattle.pg_driver.specs.Inside.records.SoundRecords.{IsSmall, RunRecords}
 use Rattle.pg_driver.specs.Inside.level.States.{State}
 use Rattle.pg_driver.specs.Inside.records.RunAccounts.{run_from}
 use Rattle.pg_driver.specs.Traces.{level_traces, source_of}
+use Rattle.pg_driver.proofs.OpenSigns.{signs_few}
 use Rattle.pg_driver.proofs.OpenTraces.{below_level, up_to_next, up_to_starting}
 use Rattle.pg_driver.proofs.RunSteps.{all_levels, level_on, levels_step, no_levels, run_begins, run_whole}
 use Rattle.pg_driver.proofs.levels.run_levels.Goals as goal
@@ -30,6 +32,7 @@ levels-init g c =
       };
       upto = up_to_starting c.largest-greatest.result (c.start-first.result + 0 - 1) m0.patterns (c.largest-greatest.ensures.value ∙ ap largest c.in_ok-copy_patterns.ensures);
       ended = c.new-counting.ensures source (c.start-first.result + 0 - 1) m0.patterns;
+      known = subst (λ (xs : List ℕ). AreKnown xs c.in_ok-windows.windows.counts.numbers) c.all_signs.ensures c.in_ok-windows.ensures;
       totals = tt;
       small = tt;
       signs = refl;
@@ -62,6 +65,7 @@ levels-preserved g c =
           subst (λ (k : ℕ). IsUpTo (max greatest (k - 1)) n.patterns) on
           (up_to_next source c.level.result.now greatest (start + i) m.patterns n.patterns (ap (λ (s : State). s.known.patterns) c.in_ok-after.ensures.done.state) c.levels.invariant.upto);
       ended = subst (λ (k : ℕ). HasEnded source k n.patterns c.run_level.new.counting) (let last : start + i ≡ start + (i + 1) - 1 = omega arith in last) c.in_ok-after.ensures.ended;
+      known = c.in_ok-after.ensures.known;
       totals = c.in_ok-after.ensures.totals;
       small = c.in_ok-after.ensures.small;
       signs = c.in_ok-after.ensures.signs ∙ c.levels.invariant.signs;
@@ -167,3 +171,12 @@ returns-clause-few g c = omega (arith, c.levels.invariant.passes, c.count-count.
 
 pub returns-clause-signs : goal.returns-clause-signs
 returns-clause-signs g c = c.levels.invariant.signs
+
+pub run_level-requires-clause-known : goal.run_level-requires-clause-known
+run_level-requires-clause-known g c = c.levels.invariant.known
+
+pub new-requires : goal.new-requires
+new-requires g c = omega (arith, ap (λ (xs : List ℕ). length xs) c.all_signs.ensures, signs_few c.args.dictionary.now c.len-words.ensures.words, c.len-words.ensures.letters)
+
+pub returns-in_err-windows-clause-signs : goal.returns-in_err-windows-clause-signs
+returns-in_err-windows-clause-signs g c = refl

@@ -2,6 +2,8 @@ use Rattle.std.proofs.Common.{◌≡◌, ◌+◌, ◌-◌, ◌*◌, ◌≤◌, m
 use Rattle.std.specs.List.{enumerate_from}
 use Rattle.std.specs.Option.{IfSome}
 use Rattle.pg_select.specs.Inside.laws.Steps.{IsUpTo}
+use Rattle.pg_dict.specs.Inside.Store.{all_signs}
+use Rattle.pg_starts.specs.Inside.Known.{AreKnown}
 use Rattle.pg_driver.specs.Accounts.{totals_by}
 use Rattle.pg_driver.specs.Inside.counting.LevelCounting.{HasEnded}
 use Rattle.pg_driver.specs.Inside.records.SoundRecords.{IsSmall}
@@ -19,6 +21,7 @@ invariant-levels g l =
       reaches : RunReaches (source_of l.table l.dictionary) m0 m l.records (enumerate_from (l.first + l.i) (drop l.i l.params.levels)) (run_from l.table l.dictionary l.params m0);
       upto : IsUpTo (max l.greatest (l.first + l.i - 1)) m.patterns;
       ended : HasEnded (source_of l.table l.dictionary) (l.first + l.i - 1) m.patterns l.counting;
+      known : AreKnown (all_signs l.dictionary) l.windows.counts.numbers;
       totals : IfSome l.last (λ after. after ≡ totals_by (source_of l.table l.dictionary) m.patterns);
       small : IfSome l.last IsSmall;
       signs : m.signs ≡ m0.signs;

@@ -1,42 +1,103 @@
-use Rattle.std.proofs.Common.{◌≡◌, ◌∷◌, ◌++◌, [], List, ℕ, inl, inr, length, Some, refl, sym, ap, subst, ◌∙◌, ◌+◌, arith, append_assoc}
+use Rattle.std.proofs.Common.{◌≡◌, ◌∷◌, ◌++◌, [], List, ℕ, ◌<◌, ◌≤◌, ◌+◌, Bool, true, false, Option, None, Some, is_some, inl, inr, length, drop, get_or, map, slice_get, refl, sym, ap, subst, ◌∙◌, arith, append_assoc}
+use Rattle.std.specs.Option.{IfSome}
 use Rattle.std.proofs.lemmas.Bool.{cases_lt}
-use Rattle.std.proofs.lemmas.List.{append-nil, length_push}
+use Rattle.std.proofs.lemmas.List.{append-nil, drop_all, drop_more, length-map, length_push}
 use Rattle.std.proofs.lemmas.Option.{slice_get_within}
-use Rattle.pg_types.specs.Inside.counting.NumberedWindows.{HasNumber}
+use Rattle.pg_types.specs.Inside.counting.Counts.{Counts, counted_sums}
+use Rattle.pg_types.specs.Inside.counting.NumberedWindows.{HasNumber, Windows}
 use Rattle.pg_select.specs.declared.choice.Choice.{Choice}
+use Rattle.pg_starts.specs.Inside.CountsByNumber.{Tallied, counted_from}
+use Rattle.pg_starts.specs.Inside.StartCountings.{counts_in, windows_in}
+use Rattle.pg_starts.specs.Inside.Starts.{window_from}
+use Rattle.pg_starts.proofs.Numbering.{get_mapped}
+use Rattle.pg_driver.specs.Inside.level.PassWindows.{fate_of_sums}
 use Rattle.pg_driver.proofs.NumberSteps.{get_left, get_seam}
+use Rattle.pg_driver.proofs.OpenSteps.{small_sums}
 use Rattle.pg_driver.proofs.pass_windows.decide_all.Goals as goal
+use Rattle.pg_driver.proofs.pass_windows.decide_all.Goals.{then-is_some+in_ok-push, else-is_some}
 
 pub numbers-init : goal.numbers-init
-numbers-init g c = ([], record { kept = sym (append-nil c.args.fates.now.items); size = refl; each = λ u n sums lt has found. absurd (omega arith) })
+numbers-init c = record {
+  order = ap (λ (ns : List ℕ). ns ++ counted_from 0 c.args.counts.now.tallies.sums.items) c.requires.no_order;
+  size = ap (λ (xs : List Choice). length xs) c.requires.no_fates;
+  each = λ u n low has. absurd (omega arith);
+}
+
+pub returns-clause-order : goal.returns-clause-order
+returns-clause-order c =
+    let ts : Tallied = c.args.counts.now.tallies.sums.items in
+    let past : length ts ≤ c.numbers.number = omega (arith, c.numbers-test.false, c.count-number-end.ensures, c.requires.counting.size) in
+    sym (append-nil c.numbers.order.items)
+    ∙ ap (λ (xs : Tallied). c.numbers.order.items ++ counted_from c.numbers.number xs) (sym (drop_all c.numbers.number ts past))
+    ∙ c.numbers.invariant.order
+
+pub returns-clause-fates : goal.returns-clause-fates
+returns-clause-fates c =
+    let ws : Windows = windows_in c.args.signs.now c.args.counts.now in
+    let size : length ws ≡ length c.args.counts.now.numbers.firsts.items = length-map c.args.counts.now.numbers.firsts.items (λ i. window_from c.args.signs.now i c.args.counts.now.numbers.len) in
+    record {
+      size = omega (arith, size, c.numbers.invariant.size, c.numbers-test.false, c.count-number-end.ensures, c.numbers.auto.number-end);
+      each = λ u n has. c.numbers.invariant.each u n (let low = slice_get_within ws n u has in omega (arith, low, size, c.numbers-test.false, c.count-number-end.ensures)) has;
+    }
+
+-- the sums at a number: it is one of those that were counted, or not
+step_on : (ts : Tallied) (k : ℕ) (ns all : List ℕ) (o : Option (ℕ × ℕ)) → k < length ts → o ≡ get_or ts k None → ns ++ counted_from k (drop k ts) ≡ all
+    → (is_some o ≡ true → (ns ++ k ∷ []) ++ counted_from (k + 1) (drop (k + 1) ts) ≡ all) × (is_some o ≡ false → ns ++ counted_from (k + 1) (drop (k + 1) ts) ≡ all)
+step_on ts k ns all o low is whole = by o (drop_more ts k None low ∙ ap (λ (x : Option (ℕ × ℕ)). x ∷ drop (k + 1) ts) (sym is))
+  where
+    by : (o : Option (ℕ × ℕ)) → drop k ts ≡ o ∷ drop (k + 1) ts
+        → (is_some o ≡ true → (ns ++ k ∷ []) ++ counted_from (k + 1) (drop (k + 1) ts) ≡ all) × (is_some o ≡ false → ns ++ counted_from (k + 1) (drop (k + 1) ts) ≡ all)
+    by None front = (λ some. absurd (let no : false ≡ true = some in cc), λ none. ap (λ (xs : Tallied). ns ++ counted_from k xs) (sym front) ∙ whole)
+    by (Some s) front = (
+      λ some. append_assoc ns (k ∷ []) (counted_from (k + 1) (drop (k + 1) ts)) ∙ ap (λ (xs : Tallied). ns ++ counted_from k xs) (sym front) ∙ whole,
+      λ none. absurd (let no : true ≡ false = none in cc),
+    )
+
+-- the fates of the numbers so far, and of the next
+fates_on : (ws : Windows) (fates : List Choice) (fate : Choice) (k : ℕ) (of : List ℕ → Choice) → length fates ≡ k
+    → ((u : List ℕ) (n : ℕ) → n < k → HasNumber ws u n → slice_get fates n ≡ Some (of u)) → ((u : List ℕ) → HasNumber ws u k → fate ≡ of u)
+    → (u : List ℕ) (n : ℕ) → n < k + 1 → HasNumber ws u n → slice_get (fates ++ fate ∷ []) n ≡ Some (of u)
+fates_on ws fates fate k of size each here u n low has = elim (cases_lt n k) [
+  | inl before ↦ get_left fates (fate ∷ []) n (of u) (each u n before has)
+  | inr after ↦
+      let same : n ≡ k = omega arith in
+      get_seam fates fate n (omega arith) ∙ ap Some (here u (subst (HasNumber ws u) same has))
+]
+
+pub fate_of-requires-clause-small : goal.fate_of-requires-clause-small
+fate_of-requires-clause-small c =
+    let signs = c.args.signs.now in
+    let k = c.args.counts.now in
+    let n = c.numbers.number in
+    let low : n < length k.numbers.firsts.items = omega (arith, c.numbers-test.true, c.count-number-end.ensures) in
+    let u = window_from signs (get_or k.numbers.firsts.items n 0) k.numbers.len in
+    small_sums (counts_in signs k) u 0 c.sums-sums.result c.requires.room
+    (c.sums-sums.ensures.value u (get_mapped (λ i. window_from signs i k.numbers.len) k.numbers.firsts.items n low))
 
 pub numbers-preserved : goal.numbers-preserved
-numbers-preserved g c =
-    let m = g.E.Engine.meaning c.args.engine.now in
-    let done : List Choice = c.numbers.invariant.0 in
-    let inv = c.numbers.invariant.1 in
-    let fate : Choice = c.decide_one-fate.result in (
-      done ++ fate ∷ [],
-      record {
-        kept = c.in_ok-push.ensures.items ∙ ap (λ (xs : List Choice). xs ++ fate ∷ []) inv.kept ∙ append_assoc c.args.fates.now.items done (fate ∷ []);
-        size = length_push done fate ∙ ap (λ (n : ℕ). n + 1) inv.size;
-        each = λ u n sums lt has found. elim (cases_lt n (length done)) [
-          | inl less ↦ get_left done (fate ∷ []) n _ (inv.each u n sums less has found)
-          | inr le ↦
-              let end : n ≡ length done = omega (arith, length_push done fate) in
-              get_seam done fate n end ∙ ap Some (c.decide_one-fate.ensures u sums (subst (HasNumber m.windows u) (end ∙ inv.size) has) found)
-        ];
-      },
-    )
-
-pub returns : goal.returns
-returns g c =
-    let m = g.E.Engine.meaning c.args.engine.now in
-    let inv = c.numbers.invariant.1 in (
-      c.numbers.invariant.0,
-      inv.kept,
-      record {
-        size = omega (arith, inv.size, c.requires.windows);
-        each = λ u n sums has found. inv.each u n sums (let lt = slice_get_within m.windows n u has in omega (arith, inv.size, c.requires.windows)) has found;
-      },
-    )
+numbers-preserved c =
+    let signs = c.args.signs.now in
+    let k = c.args.counts.now in
+    let ts : Tallied = k.tallies.sums.items in
+    let n = c.numbers.number in
+    let inv = c.numbers.invariant in
+    let low : n < length ts = omega (arith, c.numbers-test.true, c.count-number-end.ensures, c.requires.counting.size) in
+    let on = step_on ts n c.numbers.order.items (counted_from 0 ts) c.sums-sums.result low c.sums-sums.ensures.tally inv.order in
+    let fates = c.in_ok-push-2.ensures.items in
+    let size : length c.push-in-numbers.new.self.items ≡ n + 1 = omega (arith, ap (λ (xs : List Choice). length xs) fates, length_push c.numbers.fates.items c.fate_of.result, inv.size) in
+    let each : (u : List ℕ) (m : ℕ) → m < n + 1 → HasNumber (windows_in signs k) u m → slice_get c.push-in-numbers.new.self.items m ≡ Some (fate_of_sums c.args.params.now (counted_sums (counts_in signs k) u)) =
+    λ u m less has. ap (λ (xs : List Choice). slice_get xs m) fates
+    ∙ fates_on (windows_in signs k) c.numbers.fates.items c.fate_of.result n (λ v. fate_of_sums c.args.params.now (counted_sums (counts_in signs k) v)) inv.size inv.each
+    (λ v has. c.fate_of.ensures ∙ ap (fate_of_sums c.args.params.now) (c.sums-sums.ensures.value v has)) u m less has in
+    elim c.if-is_some.branch [
+      | then-is_some+in_ok-push w ↦ record {
+        order = rw (w.order-is, w.in_ok-push.ensures.items) (on.0 (sym c.is_some.ensures ∙ w.if-is_some.true));
+        size = size;
+        each = each;
+      }
+      | else-is_some w ↦ record {
+        order = rw (w.order-is) (on.1 (sym c.is_some.ensures ∙ w.if-is_some.false));
+        size = size;
+        each = each;
+      }
+    ]

@@ -1,15 +1,15 @@
-use Rattle.std.proofs.Common.{◌≡◌, ℕ, ◌<◌, ◌++◌, List, length, slice_get, Some}
+use Rattle.std.proofs.Common.{◌≡◌, ℕ, ◌<◌, ◌++◌, List, length, drop, slice_get, Some}
 use Rattle.pg_types.specs.Inside.counting.Counts.{counted_sums}
 use Rattle.pg_types.specs.Inside.counting.NumberedWindows.{HasNumber}
-use Rattle.pg_select.specs.Inside.Choices.{choice}
-use Rattle.pg_select.specs.declared.choice.Choice.{Choice}
+use Rattle.pg_starts.specs.Inside.CountsByNumber.{counted_from}
+use Rattle.pg_starts.specs.Inside.StartCountings.{counts_in, windows_in}
+use Rattle.pg_driver.specs.Inside.level.PassWindows.{fate_of_sums}
 use Rattle.pg_driver.proofs.pass_windows.decide_all.Given as goal
 
 abbrev pub invariant-numbers : goal.invariant-numbers
-invariant-numbers g l =
-    let m = g.E.Engine.meaning l.engine in
-    (more : List Choice) × record {
-      kept : l.fates.items ≡ l.initial.fates.items ++ more;
-      size : length more ≡ l.number;
-      each : (u : List ℕ) (n : ℕ) (sums : ℕ × ℕ) → n < length more → HasNumber m.windows u n → counted_sums m.counts u ≡ Some sums → slice_get more n ≡ Some (choice l.params sums.0 sums.1);
-    }
+invariant-numbers l = record {
+  order : (l.order.items ++ counted_from l.number (drop l.number l.counts.tallies.sums.items)) ≡ counted_from 0 l.counts.tallies.sums.items;
+  size : length l.fates.items ≡ l.number;
+  each : (u : List ℕ) (n : ℕ) → n < l.number → HasNumber (windows_in l.signs l.counts) u n
+      → slice_get l.fates.items n ≡ Some (fate_of_sums l.params (counted_sums (counts_in l.signs l.counts) u));
+}

@@ -1,5 +1,5 @@
--- What an engine means while a pass is counted in it, and the room that its counts have.
-use Rattle.std.specs.Prelude.{◌≡◌, ℕ, ◌+◌, ◌*◌, ◌≤◌, Bool, true, T, List, [], ◌∷◌, length, fold, sum_by}
+-- What is known while a pass is counted, and the room that its counts have.
+use Rattle.std.specs.Prelude.{◌≡◌, ℕ, ◌+◌, ◌*◌, ◌≤◌, ◌<◌, Bool, true, T, List, [], ◌∷◌, length, sum_by}
 use Rattle.std.specs.List.{list_all}
 use Rattle.std.specs.Ordering.{nat_cmp, is_lt}
 use Rattle.std.specs.Cmp.Lexicographic.{slice_cmp}
@@ -9,25 +9,22 @@ use Rattle.pg_types.specs.Inside.Signs.{SignsWithin}
 use Rattle.pg_dict.specs.Word.{Word}
 use Rattle.pg_dict.specs.Inside.SoundWords.{IsWord, letter_count}
 use Rattle.pg_types.specs.Inside.counting.Counts.{Counts}
-use Rattle.pg_types.specs.Inside.counting.NumberedWindows.{Windows, with_next_window}
+use Rattle.pg_dict.specs.Inside.Store.{all_signs}
+use Rattle.pg_starts.specs.declared.start_numbers.StartNumbers.{StartNumbers}
+use Rattle.pg_starts.specs.Inside.Known.{AreKnown, is_numbered}
 use Rattle.pg_select.specs.Inside.laws.Laws.{AreFew, number_of_positions}
-use Rattle.pg_select.specs.Inside.engine.Meanings.{Meaning, with_position}
+use Rattle.pg_select.specs.Inside.engine.Meanings.{Meaning}
 use Rattle.pg_select.specs.Inside.words.Positions.{Positions, HasValues, HasCovers}
-use Rattle.pg_select.specs.CountedPositions.{CountedPosition}
 use Rattle.pg_driver.specs.Traces.{Source}
 
--- the windows in the order in which they were first counted, after more positions are counted
-abbrev pub windows_after : Windows → Counts → List CountedPosition → Windows
-windows_after windows counts [] = windows
-windows_after windows counts (s ∷ seen) =
-    windows_after (with_next_window windows counts s.window) (with_position counts s) seen
-
--- what an engine means after more positions are counted
-abbrev pub meaning_after_counting : Meaning → List CountedPosition → Meaning
-meaning_after_counting m seen = record m {
-  counts = fold with_position m.counts seen;
-  windows = windows_after m.windows m.counts seen;
-}
+-- the windows of a length that may be counted have numbers: those at open dots, or all
+pub record AreNumbersFor (words : List Word) (size : ℕ) (is_open : ℕ → ℕ → Bool) (n : StartNumbers)
+    : Type 0 where
+  pub known : AreKnown (all_signs words) n
+  pub len : n.len ≡ size
+  pub each : (d i : ℕ) → d ≤ size → i + size ≤ length (all_signs words)
+      → i + d < length (all_signs words) → is_open d (i + d) ≡ true
+      → is_numbered (all_signs words) n i ≡ true
 
 -- what an engine found of the positions of a word
 pub record IsRead (m : Meaning) (w : Word) (at : Positions) : Type 0 where

@@ -1,6 +1,6 @@
 -- How the windows of a level are counted: what its way to count knows before a pass, and what it
 -- makes of the choices after it.
-use Rattle.std.specs.Prelude.{◌≡◌, ℕ, ◌-◌, ◌≤◌, ◌<◌, Bool, true, List, length, All, MatchBool}
+use Rattle.std.specs.Prelude.{◌≡◌, ℕ, ◌-◌, ◌≤◌, ◌<◌, Bool, true, not, List, [], length, fold, All, MatchBool}
 use Rattle.pg_types.specs.declared.limits.TheConstants.{FILE_MAX}
 use Rattle.pg_types.specs.declared.marks.Totals.{Totals}
 use Rattle.pg_types.specs.declared.parameters.LevelParams.{LevelParams}
@@ -10,7 +10,8 @@ use Rattle.pg_dict.specs.Word.{Word}
 use Rattle.pg_select.specs.declared.pass.Pass.{Pass}
 use Rattle.pg_select.specs.CountedPositions.{counted_positions}
 use Rattle.pg_select.specs.Inside.laws.Steps.{FindsMore, PreventsMore}
-use Rattle.pg_select.specs.Inside.engine.Meanings.{Meaning}
+use Rattle.pg_select.specs.Inside.engine.Meanings.{Meaning, with_position}
+use Rattle.pg_starts.specs.declared.start_numbers.StartNumbers.{StartNumbers}
 use Rattle.pg_select.specs.Statuses.{is_odd}
 use Rattle.pg_driver.specs.declared.choices.Choices.{Choices}
 use Rattle.pg_driver.specs.declared.counting.WayToCount.{WayToCount}
@@ -21,23 +22,23 @@ use Rattle.pg_driver.specs.declared.counting.above_positions.ChosenWeights.{Chos
 use Rattle.pg_driver.specs.Accounts.{totals_by}
 use Rattle.pg_dots.specs.Inside.Dots.{is_closed, position_count}
 use Rattle.pg_dots.specs.Inside.Positions.{is_among, positions_room}
-use Rattle.pg_driver.specs.Inside.counting.Counting.{HasRoom, IsBounded, meaning_after_counting}
-use Rattle.pg_driver.specs.Inside.counting.OpenSigns.{AreNever, IsLevelAt, TellsStatus, closed_at_sign, open_word_positions, sign_count}
+use Rattle.pg_driver.specs.Inside.counting.Counting.{AreNumbersFor, HasRoom, IsBounded}
+use Rattle.pg_driver.specs.Inside.counting.OpenSigns.{AreNever, IsLevelAt, TellsStatus, closed_at_sign, sign_count}
 use Rattle.pg_driver.specs.Inside.counting.OpenPositions.{IsInWord}
-use Rattle.pg_driver.specs.Inside.level.PassWindows.{HaveNumbers, counts_at, is_counted_at}
+use Rattle.pg_driver.specs.Inside.level.PassWindows.{HaveNumbers, is_counted_at}
 use Rattle.pg_driver.specs.Inside.records.SoundRecords.{IsSmall}
 use Rattle.pg_driver.specs.Traces.{Knowledge, Source}
 use Rattle.pg_driver.specs.Inside.counting.WordLevels.{IsWordsAt, chosen_weights}
 use Rattle.pg_types.specs.Inside.Limits.{sums_limit}
 use Rattle.pg_patterns.specs.Values.{Patterns}
 
--- a pass was counted: the engine has its windows and is not full, and the totals are those before
+-- a pass was counted: the counts have its windows and are not full, and the totals are those before
 pub record DidCount (source : Source) (pass : Pass)
-    (old new : Meaning) (before : Totals) : Type 0 where
-  pub counts : new ≡ meaning_after_counting old
-      (counted_positions source.minima source.words pass old.patterns old.hopeless)
-  pub room : HasRoom new.counts 0
-  pub totals : before ≡ totals_by source old.patterns
+    (m : Meaning) (cs : Counts) (before : Totals) : Type 0 where
+  pub counts : cs ≡ fold with_position []
+      (counted_positions source.minima source.words pass m.patterns m.hopeless)
+  pub room : HasRoom cs 0
+  pub totals : before ≡ totals_by source m.patterns
   pub small : IsSmall before
 
 -- the dots are closed as they are at a length of a level, and the totals are those by the patterns
@@ -96,18 +97,22 @@ AreInWords words (Open o) = sign_count words ≤ position_count o.dots
 AreInWords words (EachWord e) = All (IsInWord words) e.above.items
     × (length e.above.items ≤ FILE_MAX)
 
--- the dot of the pass is reached, and each position where it is open has its window's number
-pub record AreNumberedOpen (pass : Pass) (words : List Word)
-    (ws : Windows) (o : OpenLevel) (ns : List ℕ)
-    : Type 0 where
-  pub reached : pass.dot < o.dots.reached
-  pub numbers : HaveNumbers pass (counts_at pass) words ws
-      (open_word_positions (is_closed o.dots pass.dot) words) ns
+-- the open dots have a bit for each sign of the words, where there are open dots
+abbrev pub HasSize : List Word → WayToCount → Type 0
+HasSize words (Open o) = sign_count words ≤ position_count o.dots
+HasSize words (EachWord e) = Unit {0}
 
--- each position that is kept has its window's number, where the pass counts it
-abbrev pub AreNumberedIn : Pass → Counts → List Word → Windows → WayToCount → List ℕ → Type 0
-AreNumberedIn pass counts words ws (Open o) ns = AreNumberedOpen pass words ws o ns
-AreNumberedIn pass counts words ws (EachWord e) ns =
+-- the windows of a length that a way to count may count have numbers
+abbrev pub AreNumbersIn : List Word → ℕ → StartNumbers → WayToCount → Type 0
+AreNumbersIn words len n (Open o) =
+    AreNumbersFor words len (λ d s. not (is_closed o.dots d s)) n
+AreNumbersIn words len n (EachWord e) = AreNumbersFor words len (λ d s. true) n
+
+-- over open positions the dot of the pass is reached. Else each position that is listed has its
+-- window's number, where the pass counts it
+abbrev pub AreListed : Pass → Counts → List Word → Windows → WayToCount → List ℕ → Type 0
+AreListed pass counts words ws (Open o) ns = pass.dot < o.dots.reached
+AreListed pass counts words ws (EachWord e) ns =
     HaveNumbers pass (is_counted_at pass counts) words ws e.above.items ns
 
 -- the totals before and after a pass whose chosen windows have these sums

@@ -7,7 +7,9 @@ use Rattle.pg_types.specs.declared.limits.TheConstants.{LENGTH_MAX}
 use Rattle.pg_types.specs.declared.marks.Mark.{Mark}
 use Rattle.pg_types.specs.declared.marks.Mark.TheVariants.{DontCare}
 use Rattle.pg_types.specs.declared.parameters.LevelParams.{LevelParams}
+use Rattle.pg_types.specs.Inside.Limits.{positions_limit}
 use Rattle.pg_types.specs.Inside.counting.Counts.{Counts, counted_sums}
+use Rattle.pg_types.specs.Inside.counting.NumberedWindows.{HasNumber, Windows}
 use Rattle.pg_translate.specs.Reach.{positions}
 use Rattle.pg_dict.specs.Inside.Store.{all_signs}
 use Rattle.pg_dict.specs.Word.{Word}
@@ -32,6 +34,13 @@ abbrev pub start_of : List Word → ℕ → ℕ
 start_of [] n = 0
 start_of (w ∷ words) zero = 0
 start_of (w ∷ words) (suc n) = length w.signs + start_of words n
+
+-- a word of the words, whose signs stand behind so many
+pub record IsWordAt (words : List Word) (before : ℕ) (w : Word) : Type 0 where
+  pub number : ℕ
+  pub there : slice_get words number ≡ Some w
+  pub starts : before ≡ start_of words number
+  pub few : length (all_signs words) < positions_limit
 
 -- the position of a sign of words, which are numbered from a number on
 abbrev pub position_from : ℕ → List Word → ℕ → WordPosition
@@ -121,9 +130,24 @@ closed_at_sign level pass counts words closed d s =
     option_map_or (λ w. closed_in level pass counts w e.at (λ c. closed c s) d)
     (slice_get words e.word) (closed d s)
 
--- open dots close by what became of the windows with these numbers; closed ones stay as they are
-pub record ClosesBy (after : ℕ → ℕ → Bool) (dot : ℕ) (fates : List Choice) (old : ℕ → ℕ → Bool)
-    (signs ns : List ℕ) : Type 0 where
-  pub stays : (s : ℕ) → old dot s ≡ true → (d : ℕ) → after d s ≡ old d s
-  pub closes : (k s n : ℕ) → slice_get signs k ≡ Some s → slice_get ns k ≡ Some n
-      → (d : ℕ) → closed_by (λ c. old c s) dot (slice_get fates n) d ≡ after d s
+-- a dot is open at one sign alone
+abbrev pub open_at : ℕ → ℕ → ℕ → ℕ → Bool
+open_at dot sign d s = nat_eq d dot && nat_eq s sign
+
+-- what became of the window of a pass at a sign, by its number; none where it does not fit
+pub record HasFate (pass : Pass) (words : List Word) (ws : Windows) (fates : List Choice) (s : ℕ)
+    (fate : Option Choice) : Type 0 where
+  pub outside : (w : Word) → slice_get words (position_from 0 words s).word ≡ Some w
+      → fits w.signs (position_from 0 words s).at pass.len pass.dot ≡ false → fate ≡ None
+  pub inside : (w : Word) → slice_get words (position_from 0 words s).word ≡ Some w
+      → fits w.signs (position_from 0 words s).at pass.len pass.dot ≡ true
+      → (n : ℕ) × (HasNumber ws (window w.signs (position_from 0 words s).at pass.len pass.dot) n)
+      × (fate ≡ slice_get fates n)
+
+-- open dots close by what became of their windows; closed ones stay as they are
+pub record ClosesBy (after : ℕ → ℕ → Bool) (pass : Pass) (words : List Word) (ws : Windows)
+    (fates : List Choice) (old : ℕ → ℕ → Bool) : Type 0 where
+  pub stays : (s : ℕ) → old pass.dot s ≡ true → (d : ℕ) → after d s ≡ old d s
+  pub closes : (s : ℕ) → s < sign_count words → old pass.dot s ≡ false → (fate : Option Choice)
+      → HasFate pass words ws fates s fate
+      → (d : ℕ) → closed_by (λ c. old c s) pass.dot fate d ≡ after d s

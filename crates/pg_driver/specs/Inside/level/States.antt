@@ -45,11 +45,10 @@ pub record IsPass (pass : Pass) : Type 0 where
   pub len_high : pass.len ≤ LENGTH_MAX
   pub within : pass.dot ≤ pass.len
 
--- a pass has begun over these words, and no window is counted yet
+-- a pass has begun over these words
 pub record HasBegun (pass : Pass) (words : List Word) (m : Meaning) : Type 0 where
   pub ranges : IsPass pass
   pub begun : m.pass ≡ pass
-  pub fresh : m.counts ≡ []
   pub signs : SignsAtMost m.signs words
 
 -- the pass that is made from what an engine knows

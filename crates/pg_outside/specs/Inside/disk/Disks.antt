@@ -5,7 +5,7 @@ use Rattle.std.specs.Ordering.{nat_cmp}
 use Rattle.std.specs.FinMap as fin
 use Rattle.pg_outside.specs.Inside.disk.NewNames.{IsNewName, IsLinkedName}
 use Rattle.pg_outside.specs.declared.disk.system.NameKind.{NameKind}
-use Rattle.pg_outside.specs.declared.disk.system.NameKind.TheVariants.{Missing, Link, File}
+use Rattle.pg_outside.specs.declared.disk.system.NameKind.TheVariants.{Missing, Link, OpenFile, File}
 use Rattle.pg_outside.specs.declared.disk.system.FileId.{FileId}
 use Rattle.pg_outside.specs.declared.disk.system.FileStatus.{FileStatus}
 
@@ -17,10 +17,12 @@ pub record Node : Type 0 where
   pub is_writable : Bool
   pub is_stored : Bool
 
--- what links make of names, which permissions a new file has, and whether the disk is known plain
+-- what links make of names, which of them the system made to open files, which permissions a new
+-- file has, and whether the disk is known plain
 pub record Links : Type 0 where
   pub real : List ℕ → List ℕ
   pub is_link : List ℕ → Bool
+  pub is_open : List ℕ → Bool
   pub next : List ℕ → List ℕ
   pub new_mode : ℕ
   pub is_plain : Bool
@@ -174,7 +176,8 @@ IsNameTaken name disk = (disk.links.is_link name ≡ true) ⊎ ((id : FileId) ×
 -- this is what the name is, before a link is followed
 abbrev pub IsKindOf : List ℕ → NameKind → Disk → Type 0
 IsKindOf name Missing disk = (disk.links.is_link name ≡ false) × LeadsToNone name disk
-IsKindOf name Link disk = disk.links.is_link name ≡ true
+IsKindOf name Link disk = (disk.links.is_link name ≡ true) × (disk.links.is_open name ≡ false)
+IsKindOf name OpenFile disk = (disk.links.is_link name ≡ true) × (disk.links.is_open name ≡ true)
 IsKindOf name (File id) disk = (disk.links.is_link name ≡ false) × LeadsTo name id disk
 
 -- the text, seen from the link's folder, is the name that the link says

@@ -70,10 +70,24 @@ pub record IsContentCut (name : List ℕ) (limit : ℕ) (bytes : List ℕ) (disk
 abbrev pub IsNoted : List ℕ → List FileId → Disk → Type 0
 IsNoted name kept disk = (id : FileId) → LeadsTo name id disk → IsPlain name disk → IsIn id kept
 
--- what the name leads to may be written, and is no regular file that was read or written before
+-- the name that so many links in a row lead to, which the first name begins
+abbrev pub followed_name : Disk → ℕ → List ℕ → List ℕ
+followed_name disk zero name = name
+followed_name disk (suc count) name = disk.links.next (followed_name disk count name)
+
+-- the name's links come, one after the other, to a link of the system to an open file
+pub record LeadsThroughOpen (name : List ℕ) (disk : Disk) : Type 0 where
+  pub count : ℕ
+  pub links : (before : ℕ) → before < count + 1
+      → disk.links.is_link (followed_name disk before name) ≡ true
+  pub is_open : disk.links.is_open (followed_name disk count name) ≡ true
+
+-- what the name leads to may be written, and is no regular file that was read or written before, or
+-- that the name leads to as to an open one
 pub record MayWrite (name : List ℕ) (kept : List FileId) (disk : Disk) : Type 0 where
   pub writable : IfSome (node_at disk name) (λ node. node.is_writable ≡ true)
   pub free : (id : FileId) → IsProtected name kept id disk → ⊥
+  pub by_name : IsPlain name disk → ¬ LeadsThroughOpen name disk
 
 -- at each moment of a write a regular file is the old one or the new one, whole
 pub record AtWrite (name bytes : List ℕ) (kept : List FileId) (first disk : Disk) : Type 0 where
@@ -133,11 +147,6 @@ IsSeenMode (Some id) None mode = ⊥
 abbrev pub WasKept : List ℕ → List FileId → Disk → Type 0
 WasKept name kept disk = (id : FileId) × IsProtected name kept id disk
 
--- the name that so many links in a row lead to, which the first name begins
-abbrev pub followed_name : Disk → ℕ → List ℕ → List ℕ
-followed_name disk zero name = name
-followed_name disk (suc count) name = disk.links.next (followed_name disk count name)
-
 -- the name begins a row of more than 40 links
 abbrev pub IsDeep : List ℕ → Disk → Type 0
 IsDeep name disk = (count : ℕ) → count < LINK_NAMES_MAX
@@ -157,12 +166,13 @@ pub record IsFull (name : List ℕ) (disk : Disk) : Type 0 where
   pub one : AreOne disk real name
   pub all : AreAllTaken real disk
 
--- the name is no link, leads to this, and stands for what the other name stands for
+-- the name is no link, leads to this, and is what the other name's links come to
 pub record StandsFor (real : List ℕ) (found : Option FileId)
     (name : List ℕ) (disk : Disk) : Type 0 where
   pub direct : disk.links.is_link real ≡ false
   pub leads : id_at disk real ≡ found
   pub one : AreOne disk real name
+  pub by_name : ¬ LeadsThroughOpen name disk
 
 -- what a write by name comes to: what was done and kept in mind, each moment, and why it failed
 pub record IsWrite {T : Type 0} (result : Result T WriteError) (failed_before failed : ℕ)
@@ -172,8 +182,8 @@ pub record IsWrite {T : Type 0} (result : Result T WriteError) (failed_before fa
   pub err : OnErr result ((kept ≡ before)
       × RunsCalls old new (AtWrite name bytes before) (AfterFailure name bytes))
   pub cause : IfErr result (IsCauseOf failed_before failed
-      (HoldsNow new (WasKept name before)) (HoldsNow new (IsDeep name))
-      (HoldsNow new (IsFull name)))
+      (HoldsNow new (WasKept name before)) (HoldsNow new (LeadsThroughOpen name))
+      (HoldsNow new (IsDeep name)) (HoldsNow new (IsFull name)))
 
 -- what a write of a file leaves, on a disk that is told so, with so many failed calls of the system
 pub record IsDiskWrite {S File T E : Type 0} (told : S → Option DiskHistory) (failures : S → ℕ)

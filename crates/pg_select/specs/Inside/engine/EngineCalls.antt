@@ -1,6 +1,6 @@
 -- What an engine asks of a window that it is to count, and what counting a window, choosing it and
 -- giving it up come to.
-use Rattle.std.specs.Prelude.{◌≡◌, ℕ, ◌≤◌, Bool, true, List, length, Result, OnOk, OnErr, IsOk}
+use Rattle.std.specs.Prelude.{◌≡◌, ℕ, ◌≤◌, Bool, true, List, length, Result, OnOk, OnErr, IsOk, ◌⊎◌}
 use Rattle.pg_types.specs.declared.limits.TheConstants.{WEIGHT_MAX}
 use Rattle.pg_types.specs.Inside.Signs.{SignsWithin}
 use Rattle.pg_types.specs.Inside.counting.Counts.{AreSmall, sums_of, with_weight, is_counted}
@@ -12,6 +12,11 @@ pub record CanCount (m : Meaning) (u : List ℕ) (good : Bool) (weight : ℕ) : 
   pub signs : SignsWithin m.signs u
   pub light : weight ≤ WEIGHT_MAX
   pub small : AreSmall (with_weight (sums_of m.counts u) good weight)
+
+-- a window can be entered: it is counted, or it is one of the pass by its length and its signs
+abbrev pub CanEnter : Meaning → List ℕ → Type 0
+CanEnter m u = (is_counted m.counts u ≡ true)
+    ⊎ ((length u ≡ m.pass.len) × SignsWithin m.signs u)
 
 -- a window was counted. Where it is new, memory can be short: then all is as before
 pub record CountsWindow {A E : Type 0} (result : Result A E)

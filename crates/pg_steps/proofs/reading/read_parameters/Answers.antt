@@ -1,20 +1,13 @@
 use Rattle.std.proofs.Common.{subst}
 use Rattle.pg_types.specs.Inside.reading.Answers.{Gives}
 use Rattle.pg_types.specs.Parameters.{parameters}
-use Rattle.pg_steps.proofs.Fronts.{parameters-front, input_read, input_stopped}
+use Rattle.pg_steps.proofs.Fronts.{parameters-front}
+use Rattle.pg_steps.proofs.InputsRead.{input_read}
 use Rattle.pg_steps.proofs.reading.read_parameters.Goals as goal
 
 pub returns : goal.returns
 returns g c =
+    let read = c.in_ok-bytes.ensures in
     let gives = subst (λ bytes. Gives (λ read. read) c.read_params-read.result (parameters bytes)) c.deref.ensures.value c.read_params-read.ensures in
-    let s0 = g.F.Files.shown c.args.files.now in
-    let s1 = g.F.Files.shown c.read_front.new.files in
-    input_read parameters parameters-front c.args.input c.args.name.now c.in_ok-bytes.bytes.items s0 s1 c.in_ok-bytes.ensures.front c.read_params-read.result
-    c.accept.result c.accept.ensures c.read_front.ensures.only c.read_front.ensures.calls gives
-
-pub returns-in_err-bytes : goal.returns-in_err-bytes
-returns-in_err-bytes g c =
-    let s0 = g.F.Files.shown c.args.files.now in
-    let s1 = g.F.Files.shown c.read_front.new.files in
-    input_stopped parameters c.args.input c.args.name.now s0 s1 c.from_residual.result c.in_err-bytes.field-0.0 c.from_residual.ensures.1
-    c.read_front.ensures.only c.read_front.ensures.calls c.in_err-bytes.ensures.stopped
+    input_read c.args.input c.args.name.now parameters parameters-front (g.F.Files.shown c.args.files.now) (g.F.Files.shown c.read_front.new.files) read.0 c.in_ok-bytes.bytes.items read.1 read.2
+    c.read_params-read.result c.accept.result gives c.accept.ensures

@@ -1,53 +1,53 @@
-use Rattle.std.proofs.Common.{◌≡◌, ◌∙◌}
-use Rattle.pg_outside.specs.Content.{file_at}
-use Rattle.pg_steps.specs.Outcomes.{Ends}
-use Rattle.pg_steps.specs.Inside.ends.BuiltTexts.{KeepsPromise}
-use Rattle.pg_top.specs.pack.Inside.Inputs.{HasPack}
-use Rattle.pg_words.specs.Inside.CommandRequests.{pack_of}
-use Rattle.pg_words.specs.forms.Pack.{PackRequest}
-use Rattle.pg_steps.specs.Inside.writing.WritesMade.{writing_of}
-use Rattle.pg_steps.specs.declared.answers.Status.TheVariants.{Done}
-use Rattle.pg_top.proofs.Calls.{stops_reading}
-use Rattle.pg_top.proofs.ReadsStopped.{building_stopped}
-use Rattle.pg_steps.proofs.Orders.{mapped}
-use Rattle.pg_top.proofs.pack.PackOrder.{pack_outcome, pack_promise, stopped_making}
+use Rattle.std.proofs.Common.{◌≡◌, ◌∙◌, subst}
+use Rattle.pg_outside.specs.Content.{FileMap}
+use Rattle.pg_patterns.specs.Starts.{start}
+use Rattle.pg_plans.proofs.Told.{told_on}
+use Rattle.pg_steps.specs.declared.inputs.Input.TheVariants.{Translate, Patterns}
+use Rattle.pg_translate.specs.Tables.{table}
+use Rattle.pg_top.specs.Promises.{PackPromise}
+use Rattle.pg_top.specs.Theorems.{Means}
+use Rattle.pg_top.proofs.theorems.MeantReads.{alphabet_code, patterns_code, meant}
+use Rattle.pg_steps.specs.Inside.Texts.{ending_of}
+use Rattle.pg_steps.proofs.Stopping.{stops}
+use Rattle.pg_top.specs.Packing.{table_packed}
 use Rattle.pg_top.proofs.pack.pack_files.Goals as goal
-use Rattle.pg_steps.specs.Rules.{outcome_of}
-use Rattle.pg_top.specs.pack.PackRule.{pack_rule}
 
-pub returns : goal.returns
-returns g c =
-    let p : PackRequest = pack_of c.args.names.now in
-    let s = c.in_ok-source.source in
-    let made = c.in_ok-outputs.field-0 in
-    let s1 = g.F.Files.shown c.read_pack.new.files in
-    record {
-      only = c.read_pack.ensures.read.only;
-      made = record {
-        outcome = mapped s1.held (λ files. HasPack (file_at files) p s)
-            (λ files. outcome_of (file_at files) (pack_rule p) ≡ Ends Done (writing_of made.files.items) made.lines.items)
-            (λ files h. pack_outcome p s files h ∙ c.in_ok-outputs.ensures.made) c.in_ok-source.ensures.read.ok;
-        named = c.in_ok-outputs.ensures.named;
-        promise = mapped s1.held (λ files. HasPack (file_at files) p s) (λ files. KeepsPromise (pack_rule p) (file_at files))
-            (λ files h. pack_promise p s (writing_of made.files.items) made.lines.items files c.in_ok-outputs.ensures.made c.in_ok-outputs.ensures.table
-            c.in_ok-outputs.ensures.accepted c.in_ok-outputs.ensures.gives h) c.in_ok-source.ensures.read.ok;
-        counted = c.in_ok-source.ensures.read.counted;
-      };
-      stopped = tt;
-    }
+pub returns-in_err-table-clause-begins : goal.returns-in_err-table-clause-begins
+returns-in_err-table-clause-begins g c status sink new h =
+    c.in_err-table.ensures _ status sink new (stops c.from_residual.result ending_of _ status _ new c.from_residual.ensures.1 h)
 
-pub returns-in_err-source : goal.returns-in_err-source
-returns-in_err-source g c =
+pub returns-in_err-patterns-clause-begins : goal.returns-in_err-patterns-clause-begins
+returns-in_err-patterns-clause-begins g c status sink new h =
+    c.in_ok-table.ensures _ status sink new (c.in_err-patterns.ensures.read _ status sink new
+    (stops c.from_residual-in_err-patterns.result ending_of _ status _ new c.from_residual-in_err-patterns.ensures.1 h))
+
+pub returns-in_err-outputs-clause-begins : goal.returns-in_err-outputs-clause-begins
+returns-in_err-outputs-clause-begins g c status sink new h =
+    let end = table_packed c.args.names.now.table.now c.in_ok-table.table in
+    c.in_ok-table.ensures _ status sink new (c.in_ok-patterns.ensures.read end status sink new
+    (c.in_err-outputs.ensures.made (g.F.Files.shown c.read_patterns.new.files) status sink new
+    (stops c.from_residual-in_err-outputs.result ending_of _ status _ new c.from_residual-in_err-outputs.ensures.1 h)))
+
+pub returns-clause-begins : goal.returns-clause-begins
+returns-clause-begins g c status sink new h =
+    let end = table_packed c.args.names.now.table.now c.in_ok-table.table in
+    c.in_ok-table.ensures _ status sink new (c.in_ok-patterns.ensures.read end status sink new
+    (c.in_ok-outputs.ensures.made (g.F.Files.shown c.read_patterns.new.files) status sink new h))
+
+pub returns-clause-promised : goal.returns-clause-promised
+returns-clause-promised g c =
     let s0 = g.F.Files.shown c.args.files.now in
-    let s1 = g.F.Files.shown c.read_pack.new.files in
-    let p : PackRequest = pack_of c.args.names.now in
-    building_stopped (pack_rule p) s0 s1 c.from_residual.result c.in_err-source.field-0.0 c.from_residual.ensures.1 c.read_pack.ensures.read.only
-    (stops_reading (pack_rule p) s0 s1 c.in_err-source.field-0.0 c.in_err-source.ensures.read.stopped)
-
-pub returns-in_err-outputs : goal.returns-in_err-outputs
-returns-in_err-outputs g c =
-    let s0 = g.F.Files.shown c.args.files.now in
-    let s1 = g.F.Files.shown c.read_pack.new.files in
-    let p : PackRequest = pack_of c.args.names.now in
-    building_stopped (pack_rule p) s0 s1 c.from_residual-in_err-outputs.result c.in_err-outputs.field-0.0 c.from_residual-in_err-outputs.ensures.1 c.read_pack.ensures.read.only
-    (stopped_making p c.in_ok-source.source s0 s1 c.in_err-outputs.field-0.0 c.in_ok-source.ensures.read.counted c.in_ok-source.ensures.read.ok c.in_err-outputs.ensures.stopped)
+    let s1 = g.F.Files.shown c.read_table.new.files in
+    let s2 = g.F.Files.shown c.read_patterns.new.files in
+    let n = c.args.names.now in
+    let T = c.in_ok-table.table in
+    let P = c.in_ok-patterns.patterns in
+    let one = meant alphabet_code Translate n.translate.now table T s0 s1 c.in_ok-table.ensures in
+    let two = meant patterns_code Patterns n.patterns.now (start T) P s1 s2 c.in_ok-patterns.ensures.read in
+    told_on s0.held s1.held s2.held _ _ (λ (before after : FileMap). PackPromise before n.patterns.now n.translate.now) (λ x y z first second. record {
+      alphabet = T;
+      patterns = P;
+      table = first.1;
+      entries = subst (λ (files : FileMap). Means (start T) files n.patterns.now P) first.0 second.1;
+      good = c.in_ok-outputs.ensures.good;
+    }) one two

@@ -1,7 +1,7 @@
 use Rattle.std.proofs.Common.{◌≡◌, ◌∙◌, ◌++◌, List, ℕ, ap}
 use Rattle.pg_driver.specs.Inside.records.AccountLines.{Account}
 use Rattle.pg_top.specs.PrintedLines.{done_line}
-use Rattle.pg_top.specs.sample.Inside.Lines.{printed_part}
+use Rattle.pg_top.specs.Inside.Sampled.{printed_part}
 use Rattle.pg_top.specs.Selection.{selected_text, selected_report, selected_totals}
 use Rattle.pg_top.proofs.Selections.{totals_selected}
 use Rattle.pg_top.proofs.sample.lines_after.Goals as goal

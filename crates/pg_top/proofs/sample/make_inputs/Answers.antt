@@ -1,7 +1,13 @@
-use Rattle.pg_top.proofs.sample.SampleReads.{inputs_are}
+use Rattle.pg_top.specs.declared.selection.Inputs.{Inputs}
 use Rattle.pg_top.proofs.sample.make_inputs.Goals as goal
 
 pub returns-clause-inputs : goal.returns-clause-inputs
-returns-clause-inputs c =
-    inputs_are c.args.seed c.args.count c.in_ok-table.table c.in_ok-params.params c.empty.result c.in_ok-dictionary.dictionary c.in_ok-table.ensures
-    c.in_ok-params.ensures c.empty.ensures c.in_ok-dictionary.ensures.words
+returns-clause-inputs c = record {
+  words = c.in_ok-dictionary.ensures.words;
+  inputs = λ k. record {
+    table = c.in_ok-table.ensures k;
+    params = c.in_ok-params.ensures k;
+    start = c.empty.ensures k;
+    dictionary = c.in_ok-dictionary.dictionary;
+  };
+}

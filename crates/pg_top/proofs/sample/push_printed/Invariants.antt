@@ -1,5 +1,5 @@
 use Rattle.std.proofs.Common.{◌≡◌, ◌++◌, length}
-use Rattle.pg_top.specs.sample.Inside.Lines.{printed_part}
+use Rattle.pg_top.specs.Inside.Sampled.{printed_part}
 use Rattle.pg_top.proofs.sample.push_printed.Given as goal
 
 abbrev pub invariant-lines : goal.invariant-lines

@@ -1,6 +1,15 @@
-use Rattle.std.proofs.Common.{subst}
-use Rattle.pg_top.specs.WholeCalls.{IsRun}
-use Rattle.pg_top.proofs.Built.{usage_run}
+use Rattle.std.proofs.Common.{◌≡◌, Option, [], None, Some, refl, sym, ap, subst, ◌∙◌}
+use Rattle.std.specs.Option.{option_map}
+use Rattle.std.specs.Prelude.{MatchOption, IfSome}
+use Rattle.pg_plans.specs.Plans.{Moment, Plan, Finishes, Follows}
+use Rattle.pg_plans.specs.declared.answers.Status.TheVariants.{Done, Usage}
+use Rattle.pg_words.specs.Inside.Names.{arguments_of}
+use Rattle.pg_words.specs.Requests.{Request}
+use Rattle.pg_top.specs.Promises.{KeepsPromise}
+use Rattle.pg_top.specs.Commands.{CallsNoFile}
+use Rattle.pg_top.specs.PrintedLines.{usage_line}
+use Rattle.pg_top.specs.Inside.Requests.{plan_by}
+use Rattle.pg_top.proofs.Asked.{plan_asked}
 use Rattle.pg_top.proofs.top.run_watched.Goals as goal
 
 pub returns-in-None : goal.returns-in-None
@@ -8,10 +17,20 @@ returns-in-None g c =
     let s = g.F.Files.shown c.args.files.now in
     let o0 = g.O.Sink.shown c.args.out.now in
     let o1 = g.O.Sink.shown c.answer.new.out in
-    subst (λ asked. IsRun asked c.answer.result c.args.files.now c.args.files.now (s, o0) (s, o1)) c.in-None.ensures.value
-    (usage_run c.args.files.now s o0 o1 c.answer.result c.answer.ensures.put c.answer.ensures.counted)
+    let is = plan_asked (arguments_of c.args.words.now) ∙ ap (option_map plan_by) (sym c.in-None.ensures.value) in
+    record {
+      follows = subst (λ (plan : Option Plan). MatchOption plan (Finishes [] usage_line Usage c.answer.result (s, o0) (s, o1)) (λ plan. Follows plan c.answer.result (s, o0) (s, o1))) (sym is) (refl, c.answer.ensures);
+      uncalled = λ none. refl;
+      promised = subst (λ (asked : Option Request). IfSome asked (λ asked. c.answer.result ≡ Done → KeepsPromise asked s s)) c.in-None.ensures.value tt;
+    }
 
 pub returns-in-Some : goal.returns-in-Some
 returns-in-Some g c =
-    subst (λ asked. IsRun asked c.perform.result c.args.files.now c.perform.new.files (g.F.Files.shown c.args.files.now, g.O.Sink.shown c.args.out.now)
-    (g.F.Files.shown c.perform.new.files, g.O.Sink.shown c.perform.new.out)) c.in-Some.ensures.value c.perform.ensures
+    let old : Moment = (g.F.Files.shown c.args.files.now, g.O.Sink.shown c.args.out.now) in
+    let new : Moment = (g.F.Files.shown c.perform.new.files, g.O.Sink.shown c.perform.new.out) in
+    let is = plan_asked (arguments_of c.args.words.now) ∙ ap (option_map plan_by) (sym c.in-Some.ensures.value) in
+    record {
+      follows = subst (λ (plan : Option Plan). MatchOption plan (Finishes [] usage_line Usage c.perform.result old new) (λ plan. Follows plan c.perform.result old new)) (sym is) c.perform.ensures.follows;
+      uncalled = subst (λ (plan : Option Plan). CallsNoFile plan → c.perform.new.files ≡ c.args.files.now) (sym is) c.perform.ensures.uncalled;
+      promised = subst (λ (asked : Option Request). IfSome asked (λ asked. c.perform.result ≡ Done → KeepsPromise asked old.0 new.0)) c.in-Some.ensures.value c.perform.ensures.promised;
+    }

@@ -1,7 +1,7 @@
 use Rattle.std.proofs.Common.{◌+◌, take, sym, subst, arith}
 use Rattle.std.proofs.lemmas.List.{take_all}
 use Rattle.pg_cells.specs.Inside.families.Moves.{PutsSlots}
-use Rattle.pg_cells.proofs.LinkedLists.{free_kept}
+use Rattle.pg_cells.proofs.RowCells.{free_kept}
 use Rattle.pg_cells.proofs.Slots.{slot_here, outside_here}
 use Rattle.pg_cells.proofs.MoveSteps.{puts_none, puts_more}
 use Rattle.pg_cells.proofs.families.moves.put.Goals as goal

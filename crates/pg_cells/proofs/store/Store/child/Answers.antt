@@ -1,6 +1,6 @@
 use Rattle.std.proofs.Common.{ap, ◌∙◌}
 use Rattle.pg_cells.specs.Inside.store.CellRows.{row_of, child_at}
-use Rattle.pg_cells.proofs.ChainSteps.{taken_in_row}
+use Rattle.pg_cells.proofs.RowCells.{taken_in_row}
 use Rattle.pg_cells.proofs.store.Store.child.Goals as goal
 
 pub child_of-requires : goal.child_of-requires

@@ -1,30 +1,11 @@
-use Rattle.std.proofs.Common.{◌≡◌, ℕ, ◌<◌, ◌∷◌, arith, List, length, sym, ap, subst, ◌∙◌}
+use Rattle.std.proofs.Common.{◌≡◌, ℕ, ◌∷◌, arith, sym, subst, ◌∙◌}
 use Rattle.std.proofs.lemmas.List.{length-map}
 use Rattle.pg_types.specs.Inside.Placing.{IsLeast}
-use Rattle.pg_cells.specs.declared.store.cell.Cell.{Cell}
-use Rattle.pg_cells.specs.declared.store.cell.TheConstants.{CELLS_END}
-use Rattle.pg_cells.specs.Inside.store.CellRows.{linked_row, row_of, sign_seen}
-use Rattle.pg_cells.specs.Inside.store.FreeList.{AreLinked}
+use Rattle.pg_cells.specs.Inside.store.CellRows.{row_of, sign_seen}
 use Rattle.pg_cells.specs.Inside.store.Fit.{HasSpace, fits_row, slot_signs}
 use Rattle.pg_cells.specs.Inside.store.SetFit.{fits_sets}
 use Rattle.pg_cells.proofs.SetLaws.{fits_same}
 use Rattle.pg_cells.proofs.store.Store.find_base.Goals as goal
-
-pub find_base-requires : goal.find_base-requires
-find_base-requires g c =
-    let seen = ap row_of c.as_slice.ensures.value ∙ c.self.view_is in
-    record {
-      linked = subst (λ (cells : List (Cell g.row.V.Denot)). AreLinked (linked_row cells)) (sym c.as_slice.ensures.value) c.self.invariant.kept.linked;
-      low = c.requires.low;
-      small = subst (λ (cells : List (Cell g.row.V.Denot)). length cells < CELLS_END) (sym c.as_slice.ensures.value) c.self.invariant.kept.small;
-      room = subst (λ r. HasSpace r c.args.slots.now c.args.sign c.args.room) (sym seen) c.requires.room;
-    }
-
-pub returns-then-slots-lt-FEW_SIGNS : goal.returns-then-slots-lt-FEW_SIGNS
-returns-then-slots-lt-FEW_SIGNS g c = record {
-  least = subst (λ r. IsLeast (fits_row r (c.args.sign ∷ slot_signs c.args.slots.now)) c.args.low c.find_base.result) (ap row_of c.as_slice.ensures.value ∙ c.self.view_is) c.find_base.ensures.least;
-  room = c.find_base.ensures.room;
-}
 
 pub find_in_blocks-requires : goal.find_in_blocks-requires
 find_in_blocks-requires g c =
@@ -34,7 +15,7 @@ find_in_blocks-requires g c =
     record {
       low = c.requires.low;
       small = omega (arith, has.within, length-map c.self.inside.cells.items sign_seen);
-      room = fits_same row c.self.inside.taken_set c.self.inside.bases c.self.invariant.sets (c.args.sign ∷ slot_signs c.args.slots.now) c.args.room ∙ has.fits;
+      room = fits_same row c.self.inside.taken_set.cells c.self.inside.bases c.self.invariant.sets (c.args.sign ∷ slot_signs c.args.slots.now) c.args.room ∙ has.fits;
     }
 
 pub returns : goal.returns
@@ -42,8 +23,8 @@ returns g c =
     let row = row_of c.self.inside.cells.items in
     let signs = c.args.sign ∷ slot_signs c.args.slots.now in
     let found = c.find_in_blocks.ensures.least in
-    let same : (b : ℕ) → fits_row row signs b ≡ fits_sets c.self.inside.taken_set c.self.inside.bases signs b =
-    λ b. sym (fits_same row c.self.inside.taken_set c.self.inside.bases c.self.invariant.sets signs b) in
+    let same : (b : ℕ) → fits_row row signs b ≡ fits_sets c.self.inside.taken_set.cells c.self.inside.bases signs b =
+    λ b. sym (fits_same row c.self.inside.taken_set.cells c.self.inside.bases c.self.invariant.sets signs b) in
     record {
       least = subst (λ r. IsLeast (fits_row r signs) c.args.low c.find_in_blocks.result) c.self.view_is
           (record { from = found.from; meets = same c.find_in_blocks.result ∙ found.meets; first = λ k from lt. same k ∙ found.first k from lt });

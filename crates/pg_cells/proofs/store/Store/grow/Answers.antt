@@ -5,7 +5,7 @@ use Rattle.pg_cells.specs.Inside.store.BitSets.{room_of}
 use Rattle.std.proofs.lemmas.Result.{on_ok_weaker, err_from_is_err_and}
 use Rattle.pg_cells.specs.Inside.store.CellRows.{row_of, sign_seen, Row}
 use Rattle.pg_cells.specs.Inside.store.Store.{Extends, IsRow}
-use Rattle.pg_cells.proofs.ChainSteps.{signs_long}
+use Rattle.pg_cells.proofs.RowCells.{signs_long}
 use Rattle.pg_cells.proofs.RowWrites.{is_row}
 use Rattle.pg_cells.proofs.BlockedLaws.{blocked_grow}
 use Rattle.pg_cells.proofs.BoundLaws.{bounds_grow}
@@ -21,11 +21,11 @@ invariant_of-self-2 g c =
     let room : (m : BitSet) → c.args.count ≤ room_of m → length (row_of c.grow_cells.new.cells.items).signs ≤ room_of m =
     λ m enough. omega (arith, length-map c.grow_cells.new.cells.items sign_seen) in
     record {
-      kept = kept_extended c.self.inside.cells.items c.grow_cells.new.cells.items _ _ c.self.invariant.kept c.grow_cells.ensures.linked c.grow_cells.ensures.small c.grow_cells.ensures.extends;
-      sets = sets_grow (row_of c.self.inside.cells.items) c.self.inside.taken_set c.self.inside.bases c.self.invariant.sets (row_of c.grow_cells.new.cells.items)
-          c.make_room.new.self c.make_room-2.new.self
+      kept = kept_extended c.self.inside.cells.items c.grow_cells.new.cells.items _ _ c.self.invariant.kept c.grow_cells.ensures.small c.grow_cells.ensures.extends;
+      sets = sets_grow (row_of c.self.inside.cells.items) c.self.inside.taken_set.cells c.self.inside.bases c.self.invariant.sets (row_of c.grow_cells.new.cells.items)
+          c.make_room.new.self.cells c.make_room-2.new.self
           c.grow_cells.ensures.extends
-          (room c.make_room.new.self c.in_ok-make_room.ensures.room) (room c.make_room-2.new.self c.in_ok-make_room-2.ensures.room)
+          (room c.make_room.new.self.cells c.in_ok-make_room.ensures.room) (room c.make_room-2.new.self c.in_ok-make_room-2.ensures.room)
           (λ i. c.in_ok-make_room.ensures.same i) (λ i. c.in_ok-make_room-2.ensures.same i);
       few = c.self.invariant.few;
       bounds = bounds_grow (row_of c.self.inside.cells.items) (row_of c.grow_cells.new.cells.items) c.self.inside.lows.items c.self.inside.freed
@@ -34,7 +34,7 @@ invariant_of-self-2 g c =
     }
 
 pub grow_cells-requires : goal.grow_cells-requires
-grow_cells-requires g c = record { linked = c.self.invariant.kept.linked; small = c.self.invariant.kept.small }
+grow_cells-requires g c = c.self.invariant.kept.small
 
 pub returns-then-count-len-clause-row : goal.returns-then-count-len-clause-row
 returns-then-count-len-clause-row g c = let small = c.self.invariant.kept.small in subst IsRow c.self.view_is (is_row c.self.inside.cells.items (omega arith))
@@ -54,7 +54,7 @@ invariant_of-self g c =
     let sets = c.self.invariant.sets in
     record {
       kept = c.self.invariant.kept;
-      sets = sets_grow (row_of c.self.inside.cells.items) c.self.inside.taken_set c.self.inside.bases sets (row_of c.self.inside.cells.items) c.make_room.new.self c.self.inside.bases
+      sets = sets_grow (row_of c.self.inside.cells.items) c.self.inside.taken_set.cells c.self.inside.bases sets (row_of c.self.inside.cells.items) c.make_room.new.self.cells c.self.inside.bases
           (extends_itself (row_of c.self.inside.cells.items)) (omega (arith, sets.cell_room, c.make_room.ensures.grows)) sets.base_room c.make_room.ensures.same (λ i. refl);
       few = c.self.invariant.few;
       bounds = c.self.invariant.bounds;
@@ -85,7 +85,7 @@ invariant_of-self-in_err-make_room-2 g c =
     let row = row_of c.self.inside.cells.items in
     record {
       kept = c.self.invariant.kept;
-      sets = sets_grow row c.self.inside.taken_set c.self.inside.bases sets row c.make_room.new.self c.make_room-2.new.self
+      sets = sets_grow row c.self.inside.taken_set.cells c.self.inside.bases sets row c.make_room.new.self.cells c.make_room-2.new.self
           (extends_itself row) (omega (arith, sets.cell_room, c.make_room.ensures.grows)) (omega (arith, sets.base_room, c.make_room-2.ensures.grows))
           c.make_room.ensures.same c.make_room-2.ensures.same;
       few = c.self.invariant.few;

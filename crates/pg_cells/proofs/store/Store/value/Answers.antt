@@ -2,7 +2,7 @@ use Rattle.std.proofs.Common.{◌≡◌, ap, subst, ◌∙◌}
 use Rattle.std.specs.Prelude.{slice_get, Some}
 use Rattle.pg_cells.specs.declared.store.member.Member.{Member}
 use Rattle.pg_cells.specs.Inside.store.CellRows.{Row, row_of}
-use Rattle.pg_cells.proofs.ChainSteps.{taken_in_row}
+use Rattle.pg_cells.proofs.RowCells.{taken_in_row}
 use Rattle.pg_cells.proofs.store.Store.value.Goals as goal
 
 pub value_of-requires : goal.value_of-requires

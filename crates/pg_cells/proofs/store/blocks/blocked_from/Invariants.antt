@@ -3,4 +3,4 @@ use Rattle.pg_cells.proofs.BlockSteps.{SaysBlocked}
 use Rattle.pg_cells.proofs.store.blocks.blocked_from.Given as goal
 
 abbrev pub invariant-loop-slot : goal.invariant-loop-slot
-invariant-loop-slot g l = SaysBlocked l.taken l.bases l.sign (slot_signs l.slots) l.blocked l.base l.slot-index
+invariant-loop-slot g l = SaysBlocked l.taken.cells l.bases l.sign (slot_signs l.slots) l.blocked l.base l.slot-index

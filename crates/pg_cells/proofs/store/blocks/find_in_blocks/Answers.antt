@@ -1,72 +1,57 @@
-use Rattle.std.proofs.Common.{◌≡◌, ℕ, ◌+◌, ◌-◌, ◌<◌, ◌≤◌, ◌∷◌, Bool, true, nat_eq, inl, inr, sym, ap, ◌∙◌, arith, w64}
-use Rattle.std.specs.Int.{trailing_ones, bit_at}
-use Rattle.std.proofs.lemmas.Nat.Bits.{bit_at-trailing_ones}
-use Rattle.std.proofs.lemmas.Bool.{cases_lt, both_ways}
+use Rattle.std.proofs.Common.{ℕ, ◌+◌, ◌≤◌, ◌∷◌, Bool, inl, inr, arith}
+use Rattle.std.proofs.lemmas.Bool.{cases_lt}
 use Rattle.pg_cells.specs.Inside.store.Fit.{slot_signs}
 use Rattle.pg_cells.specs.Inside.store.SetFit.{fits_sets}
-use Rattle.pg_cells.proofs.BlockSteps.{none_fits, fit_behind, least_in_block}
+use Rattle.pg_cells.proofs.BlockSteps.{none_fits, fit_behind, found_in_block, free_sign_cell, passed_over}
 use Rattle.pg_cells.proofs.store.blocks.find_in_blocks.Goals as goal
 
 pub blocked_from-blocked-requires-in-loop-blocked : goal.blocked_from-blocked-requires-in-loop-blocked
 blocked_from-blocked-requires-in-loop-blocked g c =
-    let fits : ℕ → Bool = fits_sets c.args.taken.now c.args.bases.now (c.args.sign ∷ slot_signs c.args.slots.now) in
+    let near : c.behind.result ≤ c.args.room + c.args.sign = c.behind.ensures.room in
+    omega (arith, c.requires.small)
+
+pub behind-requires-clause-later : goal.behind-requires-clause-later
+behind-requires-clause-later g c =
+    let fits : ℕ → Bool = fits_sets c.args.taken.now.cells c.args.bases.now (c.args.sign ∷ slot_signs c.args.slots.now) in
     let inv = c.loop-blocked.invariant in
     let behind = fit_behind fits c.loop-blocked.blocked c.loop-blocked.base c.args.room c.loop-blocked-test.true inv.bits inv.upto c.requires.room in
-    omega (arith, c.requires.small)
+    omega arith
+
+pub behind-requires-clause-free : goal.behind-requires-clause-free
+behind-requires-clause-free g c = free_sign_cell c.args.taken.now.cells c.args.bases.now c.args.sign (slot_signs c.args.slots.now) c.args.room c.requires.room
 
 pub loop-blocked-preserved : goal.loop-blocked-preserved
 loop-blocked-preserved g c =
-    let fits : ℕ → Bool = fits_sets c.args.taken.now c.args.bases.now (c.args.sign ∷ slot_signs c.args.slots.now) in
+    let fits : ℕ → Bool = fits_sets c.args.taken.now.cells c.args.bases.now (c.args.sign ∷ slot_signs c.args.slots.now) in
     let inv = c.loop-blocked.invariant in
+    let later = c.behind.ensures.later in
+    let near = c.behind.ensures.room in
     record {
-      small = omega (arith, c.blocked_from-blocked-in-loop-blocked.ensures.small);
+      small = c.blocked_from-blocked-in-loop-blocked.ensures.small;
       from = omega (arith, inv.from);
-      upto = fit_behind fits c.loop-blocked.blocked c.loop-blocked.base c.args.room c.loop-blocked-test.true inv.bits inv.upto c.requires.room;
-      before = λ k from lt. elim (cases_lt k c.loop-blocked.base) [
-        | inl early ↦ inv.before k from early
-        | inr late ↦ none_fits fits c.loop-blocked.blocked c.loop-blocked.base c.loop-blocked-test.true inv.bits k late lt
-      ];
+      upto = omega arith;
+      before = λ k from lt. passed_over c.args.taken.now.cells c.args.bases.now c.args.sign (slot_signs c.args.slots.now) c.args.low c.loop-blocked.base c.behind.result k
+          (λ i low less. elim (cases_lt i c.loop-blocked.base) [
+            | inl early ↦ inv.before i low early
+            | inr late ↦ none_fits fits c.loop-blocked.blocked c.loop-blocked.base c.loop-blocked-test.true inv.bits i late less
+          ])
+          c.behind.ensures.taken from lt;
       bits = c.blocked_from-blocked-in-loop-blocked.ensures.fits;
     }
 
 pub returns-clause-least : goal.returns-clause-least
 returns-clause-least g c =
-    let fits : ℕ → Bool = fits_sets c.args.taken.now c.args.bases.now (c.args.sign ∷ slot_signs c.args.slots.now) in
-    let blocked = c.loop-blocked.blocked in
-    let base = c.loop-blocked.base in
+    let fits : ℕ → Bool = fits_sets c.args.taken.now.cells c.args.bases.now (c.args.sign ∷ slot_signs c.args.slots.now) in
     let inv = c.loop-blocked.invariant in
-    let low = bit_at-trailing_ones w64 blocked (omega (arith, c.loop-blocked-test.false, inv.small)) in
-    let bit = c.trailing_ones.result in
-    let is : bit ≡ trailing_ones w64 blocked = c.trailing_ones.ensures in
-    let small : bit < 64 = omega (arith, is, low.0) in
-    let clear : bit_at blocked bit ≡ 0 = ap (bit_at blocked) is ∙ low.1 in
-    let set : (j : ℕ) → j < bit → bit_at blocked j ≡ 1 = λ j lt. low.2 j (omega (arith, is)) in
-    let here : fits (base + bit) ≡ true = sym (inv.bits bit small) ∙ ap (λ b. nat_eq b 0) clear in
-    record {
-      from = omega (arith, inv.from);
-      meets = here;
-      first = least_in_block fits c.args.low base bit inv.from small inv.before here
-          (λ j lt. sym (inv.bits j (omega (arith, small))) ∙ ap (λ b. nat_eq b 0) (set j lt));
-    }
+    (found_in_block fits c.args.low c.loop-blocked.base c.args.room c.loop-blocked.blocked c.trailing_ones.result inv.from c.requires.low inv.before inv.bits c.requires.room
+    (omega (arith, c.loop-blocked-test.false, inv.small)) c.trailing_ones.ensures).0
 
 pub returns-clause-room : goal.returns-clause-room
 returns-clause-room g c =
-    let fits : ℕ → Bool = fits_sets c.args.taken.now c.args.bases.now (c.args.sign ∷ slot_signs c.args.slots.now) in
-    let blocked = c.loop-blocked.blocked in
-    let base = c.loop-blocked.base in
+    let fits : ℕ → Bool = fits_sets c.args.taken.now.cells c.args.bases.now (c.args.sign ∷ slot_signs c.args.slots.now) in
     let inv = c.loop-blocked.invariant in
-    let low = bit_at-trailing_ones w64 blocked (omega (arith, c.loop-blocked-test.false, inv.small)) in
-    let bit = c.trailing_ones.result in
-    let is : bit ≡ trailing_ones w64 blocked = c.trailing_ones.ensures in
-    let small : bit < 64 = omega (arith, is, low.0) in
-    let clear : bit_at blocked bit ≡ 0 = ap (bit_at blocked) is ∙ low.1 in
-    let set : (j : ℕ) → j < bit → bit_at blocked j ≡ 1 = λ j lt. low.2 j (omega (arith, is)) in
-    let first = least_in_block fits c.args.low base bit inv.from small inv.before (sym (inv.bits bit small) ∙ ap (λ b. nat_eq b 0) clear)
-    (λ j lt. sym (inv.bits j (omega (arith, small))) ∙ ap (λ b. nat_eq b 0) (set j lt)) in
-    elim (cases_lt c.args.room (base + bit)) [
-      | inl early ↦ absurd (both_ways (fits c.args.room) (first c.args.room c.requires.low early) c.requires.room)
-      | inr late ↦ late
-    ]
+    (found_in_block fits c.args.low c.loop-blocked.base c.args.room c.loop-blocked.blocked c.trailing_ones.result inv.from c.requires.low inv.before inv.bits c.requires.room
+    (omega (arith, c.loop-blocked-test.false, inv.small)) c.trailing_ones.ensures).1
 
 pub loop-blocked-init : goal.loop-blocked-init
 loop-blocked-init g c = record {

@@ -9,8 +9,8 @@ invariant-loop-blocked g l = record {
   small : l.blocked < 2 ^ 64;
   from : l.low ≤ l.base;
   upto : l.base ≤ l.room;
-  before : (k : ℕ) → l.low ≤ k → k < l.base → fits_sets l.taken l.bases (l.sign ∷ slot_signs l.slots) k ≡ false;
-  bits : (j : ℕ) → j < 64 → nat_eq (bit_at l.blocked j) 0 ≡ fits_sets l.taken l.bases (l.sign ∷ slot_signs l.slots) (l.base + j);
+  before : (k : ℕ) → l.low ≤ k → k < l.base → fits_sets l.taken.cells l.bases (l.sign ∷ slot_signs l.slots) k ≡ false;
+  bits : (j : ℕ) → j < 64 → nat_eq (bit_at l.blocked j) 0 ≡ fits_sets l.taken.cells l.bases (l.sign ∷ slot_signs l.slots) (l.base + j);
 }
 
 abbrev pub decreases-loop-blocked : goal.decreases-loop-blocked

@@ -1,5 +1,4 @@
 use borrow.Author.Rules.{scaled_Fits}
-use Rattle.std.proofs.Common.{arith}
 use Rattle.pg_cells.proofs.CellWrites.{write_free}
 use Rattle.pg_cells.proofs.store.cell.set_free.Goals as goal
 
@@ -7,22 +6,7 @@ pub offset_bounds-cells-cell : goal.offset_bounds-cells-cell
 offset_bounds-cells-cell g c = search scaled_Fits
 
 pub bounds-cells-cell : goal.bounds-cells-cell
-bounds-cells-cell g c = c.requires.cell
-
-pub overflow_cast-free : goal.overflow_cast-free
-overflow_cast-free g c = let small = c.requires.before in record { fits = omega arith }
-
-pub overflow_cast-free-2 : goal.overflow_cast-free-2
-overflow_cast-free-2 g c = let small = c.requires.after in record { fits = omega arith }
-
-pub overflow_mul-free : goal.overflow_mul-free
-overflow_mul-free g c = let small = c.requires.before in record { fits = omega arith }
-
-pub overflow_mul-free-2 : goal.overflow_mul-free-2
-overflow_mul-free-2 g c = let small = c.requires.after in record { fits = omega arith }
-
-pub overflow_add-free : goal.overflow_add-free
-overflow_add-free g c = let small = c.requires.after in record { fits = omega arith }
+bounds-cells-cell g c = c.requires
 
 pub returns : goal.returns
-returns g c = write_free c.args.cells.now c.args.cell c.index-cells-cell.result c.args.before c.args.after
+returns g c = write_free c.args.cells.now c.args.cell c.index-cells-cell.result

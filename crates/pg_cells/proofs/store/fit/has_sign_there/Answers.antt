@@ -1,6 +1,6 @@
 use Rattle.std.proofs.Common.{sym, ◌∙◌, nat_eq, ap}
 use Rattle.std.proofs.lemmas.Bool.{ne_eqb}
-use Rattle.pg_cells.proofs.ChainSteps.{sign_past}
+use Rattle.pg_cells.proofs.RowCells.{sign_past}
 use Rattle.pg_cells.proofs.store.fit.has_sign_there.Goals as goal
 
 pub returns-then-cell-cells : goal.returns-then-cell-cells

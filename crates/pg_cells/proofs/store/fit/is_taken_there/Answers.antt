@@ -1,5 +1,5 @@
 use Rattle.std.proofs.Common.{true, false, ◌≡◌}
-use Rattle.pg_cells.proofs.ChainSteps.{sign_past}
+use Rattle.pg_cells.proofs.RowCells.{sign_past}
 use Rattle.pg_cells.proofs.store.fit.is_taken_there.Goals as goal
 
 pub returns-then-cell-cells : goal.returns-then-cell-cells

@@ -17,34 +17,34 @@ bounds-w-p-2 c =
     omega (arith, c.from-p.ensures, c.word-w.result.hyphens_len)
 
 pub returns-then-not-is_chosen_by-clause-value : goal.returns-then-not-is_chosen_by-clause-value
-returns-then-not-is_chosen_by-clause-value c = λ params counts ws are decided is.
+returns-then-not-is_chosen_by-clause-value c = λ params counts ws decided is.
     let w = lent_word c.word-w.result in
     let e = c.args.position in
     let pass = c.args.pass in
     kept_more params pass counts c.args.dictionary.now e w c.word-w.ensures.lent c.args.kept c.args.kept _ _ _
-    (sym c.if-not-is_chosen_by.true ∙ c.is_chosen_by.ensures ∙ chosen_by_number params counts ws c.args.fates.now are decided c.requires.few pass
+    (sym c.if-not-is_chosen_by.true ∙ c.is_chosen_by.ensures ∙ chosen_by_number params counts ws c.args.fates.now decided c.requires.few pass
     c.args.dictionary.now e c.args.number w c.word-w.ensures.lent is)
     (refl {a = is_good pass.level w e.at}) (refl {a = position_weight w e.at}) (omega arith) (omega arith)
 
 pub returns-then-is_good-clause-value : goal.returns-then-is_good-clause-value
-returns-then-is_good-clause-value c = λ params counts ws are decided is.
+returns-then-is_good-clause-value c = λ params counts ws decided is.
     let w = lent_word c.word-w.result in
     let e = c.args.position in
     let pass = c.args.pass in
     let at : c.from-p.result ≡ e.at = omega (arith, c.from-p.ensures) in
     kept_more params pass counts c.args.dictionary.now e w c.word-w.ensures.lent c.args.kept (record { good = c.args.kept.good + c.from-weight.result; bad = c.args.kept.bad }) _ _ _
-    (sym c.if-not-is_chosen_by.false ∙ c.is_chosen_by.ensures ∙ chosen_by_number params counts ws c.args.fates.now are decided c.requires.few pass
+    (sym c.if-not-is_chosen_by.false ∙ c.is_chosen_by.ensures ∙ chosen_by_number params counts ws c.args.fates.now decided c.requires.few pass
     c.args.dictionary.now e c.args.number w c.word-w.ensures.lent is)
     (sym c.if-is_good.true ∙ c.is_good.ensures ∙ ap (is_good pass.level w) at) (c.from-weight.ensures ∙ ap (position_weight w) at) refl (omega arith)
 
 pub returns-else-is_good-clause-value : goal.returns-else-is_good-clause-value
-returns-else-is_good-clause-value c = λ params counts ws are decided is.
+returns-else-is_good-clause-value c = λ params counts ws decided is.
     let w = lent_word c.word-w.result in
     let e = c.args.position in
     let pass = c.args.pass in
     let at : c.from-p.result ≡ e.at = omega (arith, c.from-p.ensures) in
     kept_more params pass counts c.args.dictionary.now e w c.word-w.ensures.lent c.args.kept (record { good = c.args.kept.good; bad = c.args.kept.bad + c.from-weight.result }) _ _ _
-    (sym c.if-not-is_chosen_by.false ∙ c.is_chosen_by.ensures ∙ chosen_by_number params counts ws c.args.fates.now are decided c.requires.few pass
+    (sym c.if-not-is_chosen_by.false ∙ c.is_chosen_by.ensures ∙ chosen_by_number params counts ws c.args.fates.now decided c.requires.few pass
     c.args.dictionary.now e c.args.number w c.word-w.ensures.lent is)
     (sym c.if-is_good.false ∙ c.is_good.ensures ∙ ap (is_good pass.level w) at) (c.from-weight.ensures ∙ ap (position_weight w) at) (omega arith) refl
 

@@ -1,120 +1,103 @@
-use Rattle.std.proofs.Common.{◌≡◌, ℕ, ◌+◌, ◌<◌, ◌≤◌, [], ◌∷◌, Bool, true, false, Some, length, drop, get_or, slice_get, inl, inr, refl, sym, ap, ◌∙◌, arith}
+use Rattle.std.proofs.Common.{◌≡◌, ℕ, ◌+◌, ◌-◌, ◌<◌, ◌≤◌, Bool, true, false, not, List, length, inl, inr, refl, sym, ap, ◌∙◌, arith}
 use Rattle.std.proofs.lemmas.Bool.{cases_eq, cases_lt}
-use Rattle.std.proofs.lemmas.List.{drop_more, drop_all}
-use Rattle.std.proofs.lemmas.Option.{slice_get-get_or}
 use Rattle.pg_dots.specs.Inside.Dots.{is_closed, position_count}
 use Rattle.pg_dots.proofs.Walks.{ahead_kept}
-use Rattle.pg_driver.specs.Inside.counting.OpenSigns.{closed_by, open_signs}
-use Rattle.pg_driver.proofs.OpenSigns.{all_shut, open_first, open_skip, open_there}
+use Rattle.pg_driver.specs.Inside.counting.OpenSigns.{closed_by, sign_count}
+use Rattle.pg_driver.proofs.StartSteps.{numbers_at_one}
 use Rattle.pg_driver.proofs.counting.open_passes.close_dots.Goals as goal
-use Rattle.pg_driver.proofs.counting.open_passes.close_dots.Goals.{After-next_open-sign}
 
--- where the next open position stands
-record Ahead (c : After-next_open-sign) : Type 0 where
-  shut : (i : ℕ) → c.numbers.invariant.next ≤ i → i < c.next_open-sign.result → is_closed c.args.dots.now c.args.dot i ≡ true
-  low : c.next_open-sign.result < c.args.end
-  wide : c.args.end ≤ position_count c.args.dots.now
-  index : c.numbers.number-index < length (open_signs (is_closed c.args.dots.now c.args.dot) 0 c.args.end)
-  step : open_signs (is_closed c.args.dots.now c.args.dot) c.numbers.invariant.next c.args.end
-      ≡ get_or (open_signs (is_closed c.args.dots.now c.args.dot) 0 c.args.end) c.numbers.number-index 0 ∷ drop (c.numbers.number-index + 1)
-      (open_signs (is_closed c.args.dots.now c.args.dot) 0 c.args.end)
-
-ahead : (c : After-next_open-sign) → Ahead c
-ahead c =
-    let inv = c.numbers.invariant in
-    let dot = c.args.dot in
-    let end = c.args.end in
-    let old : ℕ → ℕ → Bool = is_closed c.args.dots.now in
-    let all = open_signs (old dot) 0 end in
-    let k = c.numbers.number-index in
-    let found = c.next_open-sign.ensures.next c.numbers.invariant.next c.numbers.invariant.ahead in
-    let index : k < length all = omega (arith, c.numbers-test.true, c.requires.numbers) in
-    let step : open_signs (old dot) c.numbers.invariant.next end ≡ get_or all k 0 ∷ drop (k + 1) all = inv.left ∙ drop_more all k 0 index in
-    let size = inv.size in
-    let shut = λ (i : ℕ) (from : c.numbers.invariant.next ≤ i) (before : i < c.next_open-sign.result). sym (inv.later dot i from (omega (arith, found.within))) ∙ found.passes i from before in
+pub signs-init : goal.signs-init
+signs-init c =
+    let later = c.next_open-next.ensures.next 0 c.walk-walk.ensures.ahead in
     record {
-      shut = shut;
-      low = open_there (old dot) end c.numbers.invariant.next c.next_open-sign.result (get_or all k 0) (drop (k + 1) all) found.after shut step;
-      wide = c.requires.size;
-      index = index;
-      step = step;
+      size = refl;
+      reached = refl;
+      inside = later.within;
+      free = later.fails;
+      at = c.next_open-next.ensures.within;
+      ahead = c.next_open-next.ensures.ahead 0 c.walk-walk.ensures.ahead;
+      later = λ d s from low. refl;
+      front = λ after by d s before low. sym (by.stays s (later.passes s (omega arith) before) d);
     }
+
+pub fate_of-fate-requires-clause-within : goal.fate_of-fate-requires-clause-within
+fate_of-fate-requires-clause-within c =
+    let all = ap (λ (xs : List ℕ). length xs) c.all_signs-signs.ensures in
+    omega (arith, c.signs-test.true)
+
+pub fate_of-fate-requires-clause-numbers : goal.fate_of-fate-requires-clause-numbers
+fate_of-fate-requires-clause-numbers c =
+    let dot = c.args.pass.dot in
+    let s = c.signs.next in
+    let inv = c.signs.invariant in
+    let all = ap (λ (xs : List ℕ). length xs) c.all_signs-signs.ensures in
+    let low : s < position_count c.args.dots.now = omega (arith, c.signs-test.true, c.requires.size) in
+    let free : is_closed c.args.dots.now dot s ≡ false = sym (inv.later dot s (omega arith) low) ∙ inv.free low in
+    numbers_at_one c.args.dictionary.now c.args.pass.len dot s (is_closed c.args.dots.now) c.args.counts.now.numbers c.requires.numbers free
 
 pub close_at-requires-clause-within : goal.close_at-requires-clause-within
 close_at-requires-clause-within c =
-    let a = ahead (goal.at.close_at-requires-clause-within c).After-next_open-sign in
-    omega (arith, a.low, a.wide, c.numbers.invariant.size)
+    let all = ap (λ (xs : List ℕ). length xs) c.all_signs-signs.ensures in
+    omega (arith, c.signs-test.true, c.requires.size, c.signs.invariant.size)
 
-pub numbers-init : goal.numbers-init
-numbers-init c = record {
-  size = refl;
-  reached = refl;
-  next = 0;
-  within = omega arith;
-  at = c.walk-walk.ensures.within;
-  ahead = c.walk-walk.ensures.ahead;
-  left = refl;
-  later = λ d s from low. refl;
-  front = λ after by d s before. absurd (omega arith);
-}
-
-pub numbers-preserved : goal.numbers-preserved
-numbers-preserved c =
-    let a = ahead (goal.at.numbers-preserved c).After-next_open-sign in
-    let inv = c.numbers.invariant in
-    let dot = c.args.dot in
-    let end = c.args.end in
+pub signs-preserved : goal.signs-preserved
+signs-preserved c =
+    let inv = c.signs.invariant in
+    let dot = c.args.pass.dot in
+    let s = c.signs.next in
+    let t = c.next_open-next-in-signs.result in
     let old : ℕ → ℕ → Bool = is_closed c.args.dots.now in
-    let all = open_signs (old dot) 0 end in
-    let k = c.numbers.number-index in
-    let next = c.numbers.invariant.next in
-    let at = c.next_open-sign.result in
-    let found = c.next_open-sign.ensures.next c.numbers.invariant.next c.numbers.invariant.ahead in
-    let wide : position_count c.numbers.dots ≡ position_count c.args.dots.now = inv.size in
-    let within : at < position_count c.args.dots.now = omega (arith, a.low, a.wide) in
-    let free : old dot at ≡ false = sym (inv.later dot at found.after within) ∙ found.fails (omega arith) in
-    let both : at ∷ open_signs (old dot) (at + 1) end ≡ get_or all k 0 ∷ drop (k + 1) all = sym (open_first (old dot) end at a.low free)
-    ∙ sym (open_skip (old dot) end next at found.after a.shut) ∙ a.step in
-    let head : at ≡ get_or all k 0 = cc in
-    let tail : open_signs (old dot) (at + 1) end ≡ drop (k + 1) all = cc in
-    let here : slice_get all k ≡ Some at = slice_get-get_or all k 0 a.index ∙ ap Some (sym head) in
+    let all = ap (λ (xs : List ℕ). length xs) c.all_signs-signs.ensures in
+    let inside : s < sign_count c.args.dictionary.now = omega (arith, c.signs-test.true) in
+    let low : s < position_count c.args.dots.now = omega (arith, inside, c.requires.size) in
+    let wide : position_count c.signs.dots ≡ position_count c.args.dots.now = inv.size in
+    let same : position_count c.close_at.new.dots ≡ position_count c.signs.dots = c.close_at.ensures.size in
+    let free : old dot s ≡ false = sym (inv.later dot s (omega arith) low) ∙ inv.free low in
+    let ahead = ahead_kept (is_closed c.signs.dots dot) (is_closed c.close_at.new.dots dot) c.signs.walk (s + 1) (position_count c.signs.dots)
+    (omega (arith, inv.at))
+    (λ i from below. c.close_at.ensures.others dot i below (λ is. omega arith)) (inv.ahead low) in
+    let later = c.next_open-next-in-signs.ensures.next (s + 1) ahead in
+    let kept = λ (d i : ℕ) (from : s + 1 ≤ i) (below : i < position_count c.args.dots.now).
+    c.close_at.ensures.others d i (omega (arith, below, wide)) (λ is. omega arith) ∙ inv.later d i (omega (arith, from)) below in
     record {
-      size = c.close_at.ensures.size ∙ inv.size;
+      size = same ∙ wide;
       reached = c.close_at.ensures.reached ∙ inv.reached;
-      next = at + 1;
-      within = omega arith;
-      at = omega (arith, c.next_open-sign.ensures.within, c.close_at.ensures.size);
-      ahead =
-          ahead_kept (is_closed c.numbers.dots dot) (is_closed c.close_at.new.dots dot) c.next_open-sign.new.walk (at + 1) (position_count c.numbers.dots)
-          (omega (arith, c.next_open-sign.ensures.within))
-          (λ i from low. c.close_at.ensures.others dot i low (λ is. omega arith)) (c.next_open-sign.ensures.ahead next inv.ahead (omega (arith, within, wide)));
-      left = tail;
-      later = λ d s from low. c.close_at.ensures.others d s (omega arith) (λ is. omega arith) ∙ inv.later d s (omega (arith, found.after)) low;
-      front = λ after by d s before. elim (cases_eq s at) [
-        | inl same ↦
-            ap (is_closed c.close_at.new.dots d) same
+      inside = omega (arith, later.within, same, wide);
+      free = λ below. later.fails (omega (arith, below, same, wide));
+      at = c.next_open-next-in-signs.ensures.within;
+      ahead = λ below. c.next_open-next-in-signs.ensures.ahead (s + 1) ahead (omega (arith, below, same, wide));
+      later = λ d i from below. kept d i (omega (arith, from, later.after)) below;
+      front = λ after by d i before little. elim (cases_eq i s) [
+        | inl is ↦
+            ap (is_closed c.close_at.new.dots d) is
             ∙ c.close_at.ensures.here d
-            ∙ (λ i. closed_by (λ e. inv.later e at found.after within i) dot (c.fate_of.ensures i) d)
-            ∙ by.closes k at (get_or c.args.numbers.now k 0) here (slice_get-get_or c.args.numbers.now k 0 c.numbers-test.true) d
-            ∙ ap (after d) (sym same)
-        | inr other ↦
-            c.close_at.ensures.others d s (omega arith) other
-            ∙ elim (cases_lt s next) [
-              | inl earlier ↦ inv.front after by d s earlier
-              | inr from ↦ inv.later d s from (omega arith) ∙ sym (by.stays s (a.shut s from (omega arith)) d)
-            ]
+            ∙ (λ k. closed_by (λ e. inv.later e s (omega arith) low k) dot c.fate_of-fate.result d)
+            ∙ by.closes s inside free c.fate_of-fate.result c.fate_of-fate.ensures d
+            ∙ ap (after d) (sym is)
+        | inr other ↦ elim (cases_lt i s) [
+          | inl earlier ↦ c.close_at.ensures.others d i (omega (arith, little, c.requires.size, wide)) other ∙ inv.front after by d i earlier little
+          | inr from ↦ (let below : i < position_count c.args.dots.now = omega (arith, little, c.requires.size) in
+              let shut : old dot i ≡ true = sym (kept dot i (omega arith) below) ∙ later.passes i (omega arith) before in
+              kept d i (omega arith) below ∙ sym (by.stays i shut d))
+        ]
       ];
     }
 
+pub signs-smaller : goal.signs-smaller
+signs-smaller c =
+    let inv = c.signs.invariant in
+    let dot = c.args.pass.dot in
+    let s = c.signs.next in
+    let all = ap (λ (xs : List ℕ). length xs) c.all_signs-signs.ensures in
+    let low : s < position_count c.args.dots.now = omega (arith, c.signs-test.true, c.requires.size) in
+    let wide : position_count c.signs.dots ≡ position_count c.args.dots.now = inv.size in
+    let ahead = ahead_kept (is_closed c.signs.dots dot) (is_closed c.close_at.new.dots dot) c.signs.walk (s + 1) (position_count c.signs.dots)
+    (omega (arith, inv.at))
+    (λ i from below. c.close_at.ensures.others dot i below (λ is. omega arith)) (inv.ahead low) in
+    let later = c.next_open-next-in-signs.ensures.next (s + 1) ahead in
+    omega (arith, c.signs-test.true, later.after)
+
 pub returns-clause-closed : goal.returns-clause-closed
 returns-clause-closed c = λ after by d s low.
-    let inv = c.numbers.invariant in
-    let dot = c.args.dot in
-    let end = c.args.end in
-    let old : ℕ → ℕ → Bool = is_closed c.args.dots.now in
-    let all = open_signs (old dot) 0 end in
-    let none : open_signs (old dot) c.numbers.invariant.next end ≡ [] = inv.left ∙ drop_all c.numbers.number-index all (omega (arith, c.numbers-test.false, c.requires.numbers)) in
-    elim (cases_lt s c.numbers.invariant.next) [
-      | inl earlier ↦ inv.front after by d s earlier
-      | inr from ↦ inv.later d s from (omega (arith, c.requires.size)) ∙ sym (by.stays s (all_shut (old dot) end c.numbers.invariant.next s none from low) d)
-    ]
+    let all = ap (λ (xs : List ℕ). length xs) c.all_signs-signs.ensures in
+    c.signs.invariant.front after by d s (omega (arith, low, c.signs-test.false)) low

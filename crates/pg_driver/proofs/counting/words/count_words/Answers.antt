@@ -1,27 +1,31 @@
-use Rattle.std.proofs.Common.{◌≡◌, ◌+◌, ◌++◌, ℕ, None, Some, List, [], drop, length, refl, ap, subst, sym, ◌∙◌, arith}
+use Rattle.std.proofs.Common.{◌≡◌, ◌+◌, ◌++◌, ℕ, true, None, Some, List, [], drop, fold, length, refl, ap, subst, sym, ◌∙◌, arith}
 use Rattle.std.specs.List.{flat_map, sum_by}
 use Rattle.std.proofs.lemmas.List.{append-nil, drop_all}
 use Rattle.pg_types.specs.declared.marks.Totals.{Totals}
-use Rattle.pg_types.specs.Inside.Signs.{SignsWithin}
 use Rattle.pg_dict.specs.Inside.LentWords.{lent_word}
 use Rattle.pg_dict.specs.Word.{Word}
 use Rattle.pg_dict.specs.Inside.SoundWords.{letter_count}
 use Rattle.pg_types.specs.Inside.counting.Counts.{Counts}
-use Rattle.pg_select.specs.Inside.engine.Meanings.{Meaning}
+use Rattle.pg_dict.specs.Inside.Store.{all_signs}
+use Rattle.pg_select.specs.Inside.engine.Meanings.{with_position}
+use Rattle.pg_starts.specs.declared.start_numbers.StartNumbers.{StartNumbers}
+use Rattle.pg_starts.specs.Inside.Known.{windows_of}
+use Rattle.pg_starts.specs.Inside.StartCountings.{counts_in, windows_in}
 use Rattle.pg_select.specs.CountedPositions.{counted_positions, minima_of}
 use Rattle.pg_select.specs.Inside.words.WordCounts.{counted_positions_in}
 use Rattle.pg_select.specs.Sums.{marks_in}
 use Rattle.pg_select.specs.Inside.SumSteps.{with_marks, sum_of}
-use Rattle.pg_driver.specs.Inside.counting.Counting.{HasRoom, meaning_after_counting}
+use Rattle.pg_driver.specs.Inside.counting.Counting.{AreNumbersFor, HasRoom}
 use Rattle.pg_select.proofs.MarkSteps.{marks_none, marks_word, marks_zero}
 use Rattle.pg_driver.specs.Inside.counting.OpenLevels.{listed_from, listed_in}
 use Rattle.pg_select.specs.Inside.laws.AboveLevel.{counts_above}
 use Rattle.pg_driver.specs.declared.pass_windows.WordPosition.{WordPosition}
 use Rattle.pg_driver.specs.Inside.level.PassWindows.{HaveNumbers, uncovered_at}
 use Rattle.pg_driver.specs.Inside.counting.WordLevels.{listing}
+use Rattle.pg_driver.proofs.OpenSigns.{signs_few, start_before, start_next, start_past, start_zero}
 use Rattle.pg_driver.proofs.OpenSteps.{few_words, word_added}
 use Rattle.pg_driver.proofs.Rooms.{room_left, room_less, room_none}
-use Rattle.pg_driver.proofs.Walks.{kept_on, word_step}
+use Rattle.pg_driver.proofs.Walks.{counted_step}
 use Rattle.pg_driver.proofs.WordSteps.{all_reached, drop_place, letters_left, reached_on, signs_within}
 use Rattle.pg_driver.proofs.counting.words.count_words.Goals as goal
 
@@ -32,35 +36,57 @@ pub count_word-requires-clause-ranges : goal.count_word-requires-clause-ranges
 count_word-requires-clause-ranges g c = c.requires.begun.ranges
 
 pub count_word-requires-clause-pass : goal.count_word-requires-clause-pass
-count_word-requires-clause-pass g c = ap (λ (m : Meaning). m.pass) c.words.invariant.kept ∙ c.requires.begun.begun
+count_word-requires-clause-pass g c = c.requires.begun.begun
+
+pub count_word-requires-clause-place : goal.count_word-requires-clause-place
+count_word-requires-clause-place g c = record { number = c.words.i; there = c.word-w.ensures.lent; starts = c.words.invariant.before; few = omega (arith, signs_few c.args.dictionary.now c.len-i-end.ensures.words, c.len-i-end.ensures.letters) }
+
+pub count_word-requires-clause-counting : goal.count_word-requires-clause-counting
+count_word-requires-clause-counting g c = c.words.invariant.counting
+
+pub count_word-requires-clause-starts : goal.count_word-requires-clause-starts
+count_word-requires-clause-starts g c =
+    subst (AreNumbersFor c.args.dictionary.now c.args.pass.len (λ d s. true)) (sym c.words.invariant.kept) c.requires.starts
 
 pub count_word-requires-clause-signs : goal.count_word-requires-clause-signs
 count_word-requires-clause-signs g c =
-    let signs = ap (λ (m : Meaning). m.signs) c.words.invariant.kept in
-    let P : ℕ → Type 0 = λ n. SignsWithin n c.word-w.result.signs.now in
-    subst P (sym signs) (signs_within _ c.args.dictionary.now c.words.i (lent_word c.word-w.result) c.word-w.ensures.lent c.requires.begun.signs c.word-w.ensures.word)
+    signs_within _ c.args.dictionary.now c.words.i (lent_word c.word-w.result) c.word-w.ensures.lent c.requires.begun.signs c.word-w.ensures.word
 
 pub count_word-requires-clause-room : goal.count_word-requires-clause-room
 count_word-requires-clause-room g c = room_less _ _ _ c.words.invariant.room (omega (arith, letters_left c.args.dictionary.now c.words.i (lent_word c.word-w.result) c.word-w.ensures.lent))
+
+pub overflow_add-before : goal.overflow_add-before
+overflow_add-before g c =
+    let words = c.args.dictionary.now in
+    let w = lent_word c.word-w.result in
+    let most = start_before words c.words.i (length words) w c.word-w.ensures.lent (omega (arith, c.words-test.true, c.len-i-end.ensures.len)) in
+    let whole = start_past words (length words) (omega arith) in
+    let few = signs_few words c.len-i-end.ensures.words in
+    omega (arith, c.words.invariant.before, most, whole, few, c.len-i-end.ensures.letters)
 
 pub count_word-requires-clause-room_for : goal.count_word-requires-clause-room_for
 count_word-requires-clause-room_for g c = omega (arith, letters_left c.args.dictionary.now c.words.i (lent_word c.word-w.result) c.word-w.ensures.lent, c.words.invariant.room_for)
 
 pub words-init : goal.words-init
-words-init g c = record {
-  kept = refl;
-  whole = refl;
-  room = subst (λ (cs : Counts). HasRoom cs (sum_by letter_count c.args.dictionary.now)) (sym c.requires.begun.fresh)
-      (room_none (sum_by letter_count c.args.dictionary.now) c.len-i-end.ensures.letters);
-  sums = ap (λ (t : Totals). with_marks t (flat_map (marks_in (minima_of c.args.table.now) (g.E.Engine.meaning c.args.engine.now).patterns) c.args.dictionary.now)) c.no_totals-sums.ensures
-      ∙ marks_zero (flat_map (marks_in (minima_of c.args.table.now) (g.E.Engine.meaning c.args.engine.now).patterns) c.args.dictionary.now);
-  above = refl;
-  reached = omega arith;
-  room_for = omega (arith, ap sum_of c.no_totals-sums.ensures, c.len-i-end.ensures.letters);
-  listed = [];
-  upto = refl;
-  numbers = record { size = ap length c.requires.none; each = λ k e n at to. absurd (let no : None ≡ Some e = at in cc) };
-}
+words-init g c =
+    let P = (g.E.Engine.meaning c.args.engine.now).patterns in
+    let H = (g.E.Engine.meaning c.args.engine.now).hopeless in
+    record {
+      kept = refl;
+      counting = c.requires.counting;
+      before = start_zero c.args.dictionary.now;
+      whole = ap (λ (cs : Counts). fold with_position cs (counted_positions (minima_of c.args.table.now) c.args.dictionary.now c.args.pass P H)) c.requires.fresh;
+      room = subst (λ (cs : Counts). HasRoom cs (sum_by letter_count c.args.dictionary.now)) (sym c.requires.fresh)
+          (room_none (sum_by letter_count c.args.dictionary.now) c.len-i-end.ensures.letters);
+      sums = ap (λ (t : Totals). with_marks t (flat_map (marks_in (minima_of c.args.table.now) P) c.args.dictionary.now)) c.no_totals-sums.ensures
+          ∙ marks_zero (flat_map (marks_in (minima_of c.args.table.now) P) c.args.dictionary.now);
+      above = refl;
+      reached = omega arith;
+      room_for = omega (arith, ap sum_of c.no_totals-sums.ensures, c.len-i-end.ensures.letters);
+      listed = [];
+      upto = refl;
+      numbers = record { size = ap length c.requires.none; each = λ k e n at to. absurd (let no : None ≡ Some e = at in cc) };
+    }
 
 pub returns-clause-bounded : goal.returns-clause-bounded
 returns-clause-bounded g c = record {
@@ -70,42 +96,39 @@ returns-clause-bounded g c = record {
 
 pub words-preserved : goal.words-preserved
 words-preserved g c =
-    let m0 = g.E.Engine.meaning c.args.engine.now in
-    let m = g.E.Engine.meaning c.words.engine in
-    let n = g.E.Engine.meaning c.count_word.new.engine in
+    let m = g.E.Engine.meaning c.args.engine.now in
+    let signs = all_signs c.args.dictionary.now in
+    let cs : Counts = counts_in signs c.words.counts in
+    let ds : Counts = counts_in signs c.count_word.new.counts in
     let pass = c.args.pass in
     let minima = minima_of c.args.table.now in
     let w = lent_word c.word-w.result in
     let rest = drop (c.words.i + 1) c.args.dictionary.now in
-    let kept = c.words.invariant.kept in
     let place = drop_place c.args.dictionary.now c.words.i w c.word-w.ensures.lent in
     let letters = letters_left c.args.dictionary.now c.words.i w c.word-w.ensures.lent in
-    let here : List WordPosition = listed_in minima (counts_above pass.level m0.patterns) c.words.i w in
-    let sums = c.in_ok-count_word.ensures.sums ∙ ap (λ (x : Meaning). with_marks c.words.sums (marks_in minima x.patterns w)) kept in
+    let here : List WordPosition = listed_in minima (counts_above pass.level m.patterns) c.words.i w in
     record {
-      kept = kept_on m0 m _ (counted_positions_in minima m.pass m.patterns m.hopeless w) kept c.in_ok-count_word.ensures.ok;
-      whole = word_step m0 m _ _ minima w rest kept c.in_ok-count_word.ensures.ok
-          (ap (λ (ws : List Word). meaning_after_counting m (counted_positions minima ws m0.pass m0.patterns m0.hopeless)) (sym place) ∙ c.words.invariant.whole);
-      room = room_left m.counts _ (sum_by letter_count (drop c.words.i c.args.dictionary.now)) (letter_count w)
+      kept = c.count_word.ensures.kept ∙ c.words.invariant.kept;
+      counting = c.count_word.ensures.counting;
+      before = ap (λ k. k + length w.signs) c.words.invariant.before ∙ sym (start_next c.args.dictionary.now c.words.i w c.word-w.ensures.lent);
+      whole = counted_step (counted_positions_in minima pass m.patterns m.hopeless) cs ds _ w rest c.in_ok-count_word.ensures.ok
+          (ap (λ (ws : List Word). fold with_position cs (counted_positions minima ws pass m.patterns m.hopeless)) (sym place) ∙ c.words.invariant.whole);
+      room = room_left cs ds (sum_by letter_count (drop c.words.i c.args.dictionary.now)) (letter_count w)
           (sum_by letter_count rest) c.words.invariant.room c.in_ok-count_word.ensures.took (omega (arith, letters));
-      sums = marks_word c.words.sums _ _ minima m0.patterns w rest sums (ap (λ (ws : List Word). with_marks c.words.sums (flat_map (marks_in minima m0.patterns) ws)) (sym place)
+      sums = marks_word c.words.sums _ _ minima m.patterns w rest c.in_ok-count_word.ensures.sums (ap (λ (ws : List Word). with_marks c.words.sums (flat_map (marks_in minima m.patterns) ws)) (sym place)
           ∙ c.words.invariant.sums);
       above =
-          word_added minima (listing c.args.lists c.args.pass.level m0.patterns) c.words.above.items c.count_word.new.above.items _ c.args.dictionary.now c.words.i w c.word-w.ensures.lent
-          (c.in_ok-count_word.ensures.above ∙ ap (λ (x : Meaning). c.words.above.items ++ listed_in minima (listing c.args.lists c.args.pass.level x.patterns) c.words.i w) kept)
+          word_added minima (listing c.args.lists c.args.pass.level m.patterns) c.words.above.items c.count_word.new.above.items _ c.args.dictionary.now c.words.i w c.word-w.ensures.lent
+          c.in_ok-count_word.ensures.above
           c.words.invariant.above;
       reached = reached_on minima c.args.dictionary.now c.words.i w c.word-w.ensures.lent c.in_ok-count_word.ensures.reached c.words.invariant.reached;
       room_for = omega (arith, letters, c.words.invariant.room_for, c.in_ok-count_word.ensures.took_for);
       listed = c.words.invariant.listed ++ here;
-      upto = word_added minima (counts_above pass.level m0.patterns) c.words.invariant.listed
+      upto = word_added minima (counts_above pass.level m.patterns) c.words.invariant.listed
           (c.words.invariant.listed ++ here) _ c.args.dictionary.now c.words.i w c.word-w.ensures.lent refl c.words.invariant.upto;
-      numbers =
-          let now : HaveNumbers pass (uncovered_at pass m.patterns m.hopeless) c.args.dictionary.now m.windows c.words.invariant.listed c.words.numbers.items =
-          subst (λ (x : Meaning). HaveNumbers pass (uncovered_at pass x.patterns x.hopeless) c.args.dictionary.now m.windows c.words.invariant.listed c.words.numbers.items)
-          (sym kept) c.words.invariant.numbers in
-          subst (λ (x : Meaning). HaveNumbers pass (uncovered_at pass x.patterns x.hopeless) c.args.dictionary.now n.windows
-          (c.words.invariant.listed ++ listed_in minima (counts_above pass.level x.patterns) c.words.i w) c.count_word.new.numbers.items) kept
-          (c.in_ok-count_word.ensures.numbers c.args.dictionary.now c.words.invariant.listed c.word-w.ensures.lent now);
+      numbers = c.in_ok-count_word.ensures.numbers c.args.dictionary.now c.words.invariant.listed c.word-w.ensures.lent
+          (subst (λ (n : StartNumbers). HaveNumbers pass (uncovered_at pass m.patterns m.hopeless) c.args.dictionary.now (windows_of signs n) c.words.invariant.listed c.words.numbers.items)
+          (sym c.count_word.ensures.kept) c.words.invariant.numbers);
     }
 
 pub word-w-requires : goal.word-w-requires
@@ -114,18 +137,11 @@ word-w-requires g c = omega (arith, c.words-test.true)
 pub count_word-requires-clause-word : goal.count_word-requires-clause-word
 count_word-requires-clause-word g c = c.word-w.ensures.word
 
-pub returns-in_err-count_word-clause-signs : goal.returns-in_err-count_word-clause-signs
-returns-in_err-count_word-clause-signs g c = c.count_word.ensures.signs ∙ ap (λ (m : Meaning). m.signs) c.words.invariant.kept
-
-pub returns-clause-signs : goal.returns-clause-signs
-returns-clause-signs g c = ap (λ (m : Meaning). m.signs) c.words.invariant.kept
-
 pub returns-clause-ok : goal.returns-clause-ok
 returns-clause-ok g c =
     let m0 = g.E.Engine.meaning c.args.engine.now in
-    let m = g.E.Engine.meaning c.words.engine in
     let none : drop c.words.i c.args.dictionary.now ≡ [] = drop_all c.words.i c.args.dictionary.now (omega (arith, c.words-test.false, c.len-i-end.ensures.len)) in
-    ap (λ (ws : List Word). meaning_after_counting m (counted_positions (minima_of c.args.table.now) ws m0.pass m0.patterns m0.hopeless)) (sym none) ∙ c.words.invariant.whole
+    ap (λ (ws : List Word). fold with_position (counts_in (all_signs c.args.dictionary.now) c.words.counts) (counted_positions (minima_of c.args.table.now) ws c.args.pass m0.patterns m0.hopeless)) (sym none) ∙ c.words.invariant.whole
 
 pub returns-clause-above : goal.returns-clause-above
 returns-clause-above g c =
@@ -138,7 +154,6 @@ returns-clause-above g c =
 pub returns-clause-numbers : goal.returns-clause-numbers
 returns-clause-numbers g c =
     let m0 = g.E.Engine.meaning c.args.engine.now in
-    let m = g.E.Engine.meaning c.words.engine in
     let words = c.args.dictionary.now in
     let listed : List WordPosition = c.words.invariant.listed in
     let none : drop c.words.i words ≡ [] = drop_all c.words.i words (omega (arith, c.words-test.false, c.len-i-end.ensures.len)) in
@@ -146,13 +161,12 @@ returns-clause-numbers g c =
     sym (append-nil listed)
     ∙ ap (λ (ws : List Word). listed ++ listed_from (minima_of c.args.table.now) (counts_above c.args.pass.level m0.patterns) c.words.i ws) (sym none)
     ∙ c.words.invariant.upto in
-    subst (λ (es : List WordPosition). HaveNumbers c.args.pass (uncovered_at c.args.pass m0.patterns m0.hopeless) words m.windows es c.words.numbers.items) all c.words.invariant.numbers
+    subst (λ (es : List WordPosition). HaveNumbers c.args.pass (uncovered_at c.args.pass m0.patterns m0.hopeless) words (windows_in (all_signs words) c.words.counts) es c.words.numbers.items) all c.words.invariant.numbers
 
 pub returns-clause-room : goal.returns-clause-room
 returns-clause-room g c =
-    let m = g.E.Engine.meaning c.words.engine in
     let none : drop c.words.i c.args.dictionary.now ≡ [] = drop_all c.words.i c.args.dictionary.now (omega (arith, c.words-test.false, c.len-i-end.ensures.len)) in
-    subst (λ (ws : List Word). HasRoom m.counts (sum_by letter_count ws)) none c.words.invariant.room
+    subst (λ (ws : List Word). HasRoom (counts_in (all_signs c.args.dictionary.now) c.words.counts) (sum_by letter_count ws)) none c.words.invariant.room
 
 pub returns-clause-totals : goal.returns-clause-totals
 returns-clause-totals g c =

@@ -7,7 +7,7 @@ pub returns-in_err-id : goal.returns-in_err-id
 returns-in_err-id g c = record {
   ok = no_value _ c.from_residual.result c.from_residual.ensures.0;
   err = on_err c.from_residual.result (refl, c.in_err-id.ensures.err);
-  cause = passed_on c.from_residual.result _ _ _ _ _ _ c.from_residual.ensures.1 c.in_err-id.ensures.cause;
+  cause = passed_on c.from_residual.result _ _ _ _ _ _ _ c.from_residual.ensures.1 c.in_err-id.ensures.cause;
 }
 
 pub returns : goal.returns

@@ -19,7 +19,7 @@ returns-in_err-write_all g c = record {
     refl,
     write_device_fails _ _ _ _ _ _ _ _ c.requires.opened c.requires.writable c.stat.ensures.same c.in_ok-seen.ensures.seen c.if-not-seen.true c.in_err-write_all.ensures.err.1,
   );
-  cause = failed_on c.from_residual-in_err-write_all.result _ _ _ _ _ c.from_residual-in_err-write_all.ensures.1 (rose_since _ _ _ c.in_ok-seen.ensures.ok_failures c.in_err-write_all.ensures.err.0);
+  cause = failed_on c.from_residual-in_err-write_all.result _ _ _ _ _ _ c.from_residual-in_err-write_all.ensures.1 (rose_since _ _ _ c.in_ok-seen.ensures.ok_failures c.in_err-write_all.ensures.err.0);
 }
 
 pub returns-then-not-seen : goal.returns-then-not-seen

@@ -53,7 +53,7 @@ returns-in_err-own g c = record {
   own = IfOk-from_err _ _ c.from_residual.ensures.0;
   apart = IfOk-from_err _ _ c.from_residual.ensures.0;
   ok_failures = no_value _ c.from_residual.result c.from_residual.ensures.0;
-  cause = memory_on c.from_residual.result _ _ _ _ _ c.from_residual.ensures.1 c.loop-number.invariant.failures;
+  cause = memory_on c.from_residual.result _ _ _ _ _ _ c.from_residual.ensures.1 c.loop-number.invariant.failures;
 }
 
 pub returns-in_err-file : goal.returns-in_err-file
@@ -63,7 +63,7 @@ returns-in_err-file g c = record {
   own = IfOk-from_err _ _ c.from_residual-in_err-file.ensures.0;
   apart = IfOk-from_err _ _ c.from_residual-in_err-file.ensures.0;
   ok_failures = no_value _ c.from_residual-in_err-file.result c.from_residual-in_err-file.ensures.0;
-  cause = failed_on c.from_residual-in_err-file.result _ _ _ _ _ c.from_residual-in_err-file.ensures.1 (rose_since _ _ _ c.loop-number.invariant.failures c.in_err-file.ensures.failed);
+  cause = failed_on c.from_residual-in_err-file.result _ _ _ _ _ _ c.from_residual-in_err-file.ensures.1 (rose_since _ _ _ c.loop-number.invariant.failures c.in_err-file.ensures.failed);
 }
 
 pub loop-number-preserved : goal.loop-number-preserved

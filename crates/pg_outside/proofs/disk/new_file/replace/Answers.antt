@@ -29,5 +29,5 @@ pub returns-in_err-new : goal.returns-in_err-new
 returns-in_err-new g c = record {
   ok = IfOk-from_err _ _ c.from_residual.ensures.0;
   err = on_err c.from_residual.result (nothing_done _ _ _ _ _ c.in_err-new.ensures.err);
-  cause = passed_since c.from_residual.result _ _ _ _ _ _ _ _ _ _ c.from_residual.ensures.1 c.in_err-new.ensures.cause refl (λ b. b) (λ b. b) (λ all. (c.in_err-new.ensures.err, all));
+  cause = passed_since c.from_residual.result _ _ _ _ _ _ _ _ _ _ _ _ c.from_residual.ensures.1 c.in_err-new.ensures.cause refl (λ b. b) (λ b. b) (λ b. b) (λ all. (c.in_err-new.ensures.err, all));
 }

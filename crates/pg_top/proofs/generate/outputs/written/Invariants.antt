@@ -1,5 +1,5 @@
 use Rattle.std.proofs.Common.{◌≡◌, map}
-use Rattle.pg_steps.specs.Inside.writing.WritesMade.{writing_of}
+use Rattle.pg_steps.specs.Inside.Texts.{writing_of}
 use Rattle.pg_top.specs.Inside.selection.SelectedFiles.{written_file}
 use Rattle.pg_top.proofs.generate.outputs.written.Given as goal
 

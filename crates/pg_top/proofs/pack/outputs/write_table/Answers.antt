@@ -1,7 +1,7 @@
 use Rattle.std.proofs.Common.{◌∙◌, ◌++◌, ◌∷◌, [], List, ap}
-use Rattle.pg_top.specs.pack.PackRule.{packed_line}
-use Rattle.pg_steps.specs.Inside.writing.WritesMade.{writing_of}
-use Rattle.pg_steps.specs.declared.writes.OutputFile.{OutputFile}
+use Rattle.pg_top.specs.Packing.{packed_line}
+use Rattle.pg_steps.specs.Inside.Texts.{writing_of}
+use Rattle.pg_steps.specs.declared.ends.OutputFile.{OutputFile}
 use Rattle.pg_top.proofs.pack.outputs.write_table.Goals as goal
 
 pub returns : goal.returns

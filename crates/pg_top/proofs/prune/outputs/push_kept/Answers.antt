@@ -3,7 +3,7 @@ use Rattle.std.proofs.lemmas.Result.{on_ok_weaker}
 use Rattle.pg_types.specs.declared.limits.TheConstants.{FILE_MAX}
 use Rattle.pg_patterns.specs.Starts.{start}
 use Rattle.pg_patterns.specs.Texts.{pattern_text}
-use Rattle.pg_steps.specs.Inside.writing.WritesMade.{writing_of}
+use Rattle.pg_steps.specs.Inside.Texts.{writing_of}
 use Rattle.pg_top.proofs.prune.outputs.push_kept.Goals as goal
 
 pub returns-clause-file : goal.returns-clause-file

@@ -1,6 +1,6 @@
 use Rattle.std.proofs.Common.{◌∙◌, ◌++◌, ◌∷◌, [], List, ℕ, ap}
 use Rattle.std.proofs.lemmas.Result.{on_ok_weaker}
-use Rattle.pg_steps.specs.Inside.writing.WritesMade.{writing_of}
+use Rattle.pg_steps.specs.Inside.Texts.{writing_of}
 use Rattle.pg_top.proofs.prune.outputs.push_needs.Goals as goal
 
 pub returns : goal.returns

@@ -1,4 +1,4 @@
-use Rattle.pg_top.specs.sample.SampleRule.{sample_text}
+use Rattle.pg_top.specs.Sampling.{sample_text}
 use Rattle.pg_top.proofs.sample.SampleSteps.{word_more}
 use Rattle.pg_top.proofs.sample.words.sample_text.Goals as goal
 

@@ -1,5 +1,5 @@
 use Rattle.std.proofs.Common.{◌≡◌, ◌-◌, ◌++◌}
-use Rattle.pg_top.specs.sample.SampleRule.{sample_text}
+use Rattle.pg_top.specs.Sampling.{sample_text}
 use Rattle.pg_top.proofs.sample.words.sample_text.Given as goal
 
 abbrev pub invariant-words : goal.invariant-words

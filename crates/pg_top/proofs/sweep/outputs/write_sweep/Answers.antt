@@ -1,6 +1,6 @@
 use Rattle.std.proofs.Common.{◌++◌, ◌∷◌, [], List, ℕ, ◌∙◌, ap}
-use Rattle.pg_steps.specs.Inside.writing.WritesMade.{writing_of}
-use Rattle.pg_steps.specs.declared.writes.OutputFile.{OutputFile}
+use Rattle.pg_steps.specs.Inside.Texts.{writing_of}
+use Rattle.pg_steps.specs.declared.ends.OutputFile.{OutputFile}
 use Rattle.pg_top.proofs.sweep.outputs.write_sweep.Goals as goal
 
 pub returns-clause-files : goal.returns-clause-files

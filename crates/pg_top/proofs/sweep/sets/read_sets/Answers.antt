@@ -1,92 +1,40 @@
-use Rattle.std.proofs.Common.{◌+◌, ◌∷◌, [], List, take, length, IfSome, ◌∙◌, sym, ap, subst, length-append, arith}
+use Rattle.std.proofs.Common.{◌+◌, ◌∷◌, ◌++◌, [], length, drop, Ok, Err, ap, ◌∙◌, length-append}
 use Rattle.std.proofs.lemmas.Result.{IfOk-from_err}
-use Rattle.pg_types.specs.Parameters.{Parameters}
-use Rattle.pg_outside.specs.Content.{FilesShown, file_at}
+use Rattle.pg_steps.proofs.Stopping.{stops, short}
 use Rattle.pg_words.specs.Inside.Names.{arguments_of}
-use Rattle.pg_top.specs.sweep.Inside.AcceptedInputs.{HasSets}
-use Rattle.pg_steps.specs.declared.inputs.Stop.TheVariants.{Memory}
-use Rattle.pg_steps.proofs.CountedCalls.{no_calls}
-use Rattle.pg_steps.proofs.Orders.{only_on, only_self}
-use Rattle.pg_top.proofs.ReadsStopped.{files_stopped}
-use Rattle.pg_top.proofs.sweep.SetFiles.{no_sets, all_sets_taken, sets_more, set_read, sets_read_on, stopped_set, all_sets_read}
+use Rattle.pg_top.proofs.sweep.SetReads.{sets_begun, sets_done, set_read, set_pushed}
+use Rattle.pg_top.specs.Sweeping.{sets_from}
 use Rattle.pg_top.proofs.sweep.sets.read_sets.Goals as goal
+
+pub sets-init : goal.sets-init
+sets-init g c = record {
+  lead = sets_begun c.args.names.now c.new-sets.result.items (g.F.Files.shown c.args.files.now) c.new-sets.ensures.items;
+  count = ap length c.new-sets.ensures.items;
+}
 
 pub sets-preserved : goal.sets-preserved
 sets-preserved g c =
-    let s0 : FilesShown = g.F.Files.shown c.args.files.now in
-    let s1 : FilesShown = g.F.Files.shown c.sets.files in
-    let s2 : FilesShown = g.F.Files.shown c.read_parameters.new.files in
-    let names = c.args.names.now in
-    let set = c.in_ok-set.set in
-    let more = rw c.as_str-name.ensures.value at c.in_ok-set.ensures.ok in
-    let items = c.in-Ok.ensures.items in
-    let here = rw c.as_str-name.ensures.value at c.read_parameters.ensures.calls in
+    let gives = rw c.as_str-name.ensures.value at c.in_ok-set.ensures in
     record {
-      only = only_on s0 s1 s2 c.sets.invariant.only c.read_parameters.ensures.only;
-      taken = subst (λ (sets : List Parameters). IfSome s2.held (λ files. HasSets (file_at files) (arguments_of (take (c.sets.i + 1) names)) sets)) (sym items)
-          (sets_more names c.sets.i c.index-names-i.result c.index-names-i.is c.sets-test.true s1.held s2.held c.sets.sets.items set c.read_parameters.ensures.only.held c.sets.invariant.taken more);
-      calls = sets_read_on names c.sets.i c.index-names-i.result c.index-names-i.is c.sets-test.true s0 s1 s2 c.sets.invariant.calls here;
-      count = ap length items ∙ length-append c.sets.sets.items (set ∷ []) ∙ ap (λ n. n + 1) c.sets.invariant.count;
+      lead = set_pushed c.args.names.now c.sets.i c.index-names-i.result c.sets-test.true c.index-names-i.is c.in_ok-set.set c.sets.sets.items c.push.new.self.items
+          (g.F.Files.shown c.args.files.now) (g.F.Files.shown c.sets.files) (g.F.Files.shown c.read_parameters.new.files) c.in-Ok.ensures.items gives c.sets.invariant.lead;
+      count = ap length c.in-Ok.ensures.items ∙ length-append c.sets.sets.items (c.in_ok-set.set ∷ []) ∙ ap (λ n. n + 1) c.sets.invariant.count;
     }
 
-pub returns-in_err-set : goal.returns-in_err-set
-returns-in_err-set g c =
-    let s0 : FilesShown = g.F.Files.shown c.args.files.now in
-    let s1 : FilesShown = g.F.Files.shown c.sets.files in
-    let s2 : FilesShown = g.F.Files.shown c.read_parameters.new.files in
-    let names = c.args.names.now in
-    let stops = rw c.as_str-name.ensures.value at c.in_err-set.ensures.stopped in
-    let here = rw c.as_str-name.ensures.value at c.read_parameters.ensures.calls in
-    let calls = set_read names c.sets.i c.index-names-i.result c.index-names-i.is c.sets-test.true s0 s1 s2 c.sets.invariant.calls here in
-    let r = c.from_residual.result in
-    let is = c.from_residual.ensures.1 in
-    record {
-      read = files_stopped _ s0 s2 r _ c.in_err-set.field-0.0 is (only_on s0 s1 s2 c.sets.invariant.only c.read_parameters.ensures.only)
-          (stopped_set names c.sets.i c.index-names-i.result c.index-names-i.is c.sets-test.true s0 s1 s2 c.sets.sets.items c.in_err-set.field-0.0
-          c.sets.invariant.only.reads calls c.read_parameters.ensures.only.held c.sets.invariant.taken stops);
-      count = IfOk-from_err r _ c.from_residual.ensures.0;
-    }
+pub returns-in_err-set-clause-read : goal.returns-in_err-set-clause-read
+returns-in_err-set-clause-read g c next status sink new h =
+    let gives = rw c.as_str-name.ensures.value at c.in_err-set.ensures in
+    c.sets.invariant.lead next status sink new (set_read c.args.names.now c.sets.i c.index-names-i.result c.sets-test.true c.index-names-i.is (c.sets.i + 1) (Err c.in_err-set.field-0.0)
+    (g.F.Files.shown c.sets.files) (g.F.Files.shown c.read_parameters.new.files) (λ As. next (c.sets.sets.items ++ As)) gives status sink new
+    (stops c.from_residual.result _ c.in_err-set.field-0.0 status _ new c.from_residual.ensures.1 h))
 
-pub returns-in-Err : goal.returns-in-Err
-returns-in-Err g c =
-    let s0 : FilesShown = g.F.Files.shown c.args.files.now in
-    let s1 : FilesShown = g.F.Files.shown c.sets.files in
-    let s2 : FilesShown = g.F.Files.shown c.read_parameters.new.files in
-    let names = c.args.names.now in
-    let here = rw c.as_str-name.ensures.value at c.read_parameters.ensures.calls in
-    let calls = set_read names c.sets.i c.index-names-i.result c.index-names-i.is c.sets-test.true s0 s1 s2 c.sets.invariant.calls here in
-    record {
-      read = record {
-        only = only_on s0 s1 s2 c.sets.invariant.only c.read_parameters.ensures.only;
-        ok = tt;
-        counted = tt;
-        stopped = stopped_set names c.sets.i c.index-names-i.result c.index-names-i.is c.sets-test.true s0 s1 s2 c.sets.sets.items Memory
-            c.sets.invariant.only.reads calls c.read_parameters.ensures.only.held c.sets.invariant.taken tt;
-      };
-      count = tt;
-    }
+pub returns-in-Err-clause-read : goal.returns-in-Err-clause-read
+returns-in-Err-clause-read g c next status sink new h =
+    let gives = rw c.as_str-name.ensures.value at c.in_ok-set.ensures in
+    let rest = sets_from (c.sets.i + 1 + 1) (arguments_of (drop (c.sets.i + 1) c.args.names.now)) (λ As. next (c.sets.sets.items ++ c.in_ok-set.set ∷ As)) in
+    c.sets.invariant.lead next status sink new (set_read c.args.names.now c.sets.i c.index-names-i.result c.sets-test.true c.index-names-i.is (c.sets.i + 1) (Ok c.in_ok-set.set)
+    (g.F.Files.shown c.sets.files) (g.F.Files.shown c.read_parameters.new.files) (λ As. next (c.sets.sets.items ++ As)) gives status sink new (short rest status _ new h))
 
-pub sets-init : goal.sets-init
-sets-init g c =
-    let s : FilesShown = g.F.Files.shown c.args.files.now in
-    let empty = c.new-sets.ensures.items in
-    record {
-      only = only_self s;
-      taken = subst (λ (sets : List Parameters). IfSome s.held (λ files. HasSets (file_at files) [] sets)) (sym empty) (no_sets s.held);
-      calls = no_calls s;
-      count = ap length empty;
-    }
-
-pub returns : goal.returns
-returns g c =
-    let s0 : FilesShown = g.F.Files.shown c.args.files.now in
-    let s1 : FilesShown = g.F.Files.shown c.sets.files in
-    record {
-      read = record {
-        only = c.sets.invariant.only;
-        ok = all_sets_taken c.args.names.now c.sets.i s1.held c.sets.sets.items (omega arith) c.sets.invariant.taken;
-        counted = all_sets_read c.args.names.now c.sets.i s0 s1 (omega arith) c.sets.invariant.calls;
-        stopped = tt;
-      };
-      count = omega arith;
-    }
+pub returns-clause-read : goal.returns-clause-read
+returns-clause-read g c next status sink new h =
+    sets_done c.args.names.now c.sets.i c.sets.sets.items (g.F.Files.shown c.args.files.now) (g.F.Files.shown c.sets.files) c.sets-test.false c.sets.invariant.lead next status sink new h

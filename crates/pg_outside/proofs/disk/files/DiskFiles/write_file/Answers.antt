@@ -16,6 +16,8 @@ returns g c = record {
     ok_faults = c.count_write.ensures.ok;
   };
   cause = c.write_named-result.ensures.cause;
+  reason = c.count_write.ensures.reason;
+  ok_reason = c.count_write.ensures.ok_reason;
   later = c.count_write.ensures.later;
   calls = c.and-self.ensures;
 }

@@ -14,6 +14,8 @@ returns-in-Ok g c = record {
   };
   disk = let left = c.in-Ok.ensures.disk in
       record { ok = left.ok; err = tt; kept = left.kept; err_kept = tt; ok_failures = left.ok_failures; one_fault = tt; ok_faults = left.ok_faults };
+  reason = tt;
+  ok_reason = c.in-Ok.ensures.ok_reason;
 }
 
 pub returns-in-Err : goal.returns-in-Err
@@ -28,4 +30,6 @@ returns-in-Err g c = record {
   };
   disk = let left = c.in-Err.ensures.disk in
       record { ok = tt; err = left.err; kept = left.kept; err_kept = left.err_kept; ok_failures = tt; one_fault = left.one_fault; ok_faults = tt };
+  reason = rw c.in-Err.ensures.reason;
+  ok_reason = tt;
 }

@@ -1,0 +1,8 @@
+-- What only contracts between layers and proofs need.
+pub mod Starts
+pub mod Orders
+pub mod Sets
+pub mod Cells
+pub mod Known
+pub mod CountsByNumber
+pub mod StartCountings

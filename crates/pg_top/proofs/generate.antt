@@ -1,2 +1,0 @@
-pub mod InputOrder
-pub mod WrittenNames

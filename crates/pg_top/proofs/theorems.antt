@@ -1,0 +1,10 @@
+pub mod WrittenFiles
+pub mod MeantInputs
+pub mod Compared
+pub mod Caused
+pub mod Ordered
+pub mod OwnPlans
+pub mod RunLaws
+pub mod CommandLaws
+pub mod MeantReads
+pub mod Promised

@@ -1,2 +1,0 @@
--- How a command ends: it stops before it writes, or it writes what it built.
-pub mod Completeness

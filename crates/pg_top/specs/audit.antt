@@ -1,3 +1,0 @@
--- What `audit` reads and says.
-pub mod AuditRule
-pub mod Inside

@@ -1,3 +1,0 @@
--- What `generate` reads, writes and prints.
-pub mod GenerateRule
-pub mod Inside

@@ -1,2 +1,0 @@
--- What only contracts between layers and proofs need.
-pub mod AcceptedInputs

@@ -1,3 +1,0 @@
--- What `prune` reads, writes, prints and promises.
-pub mod PruneRule
-pub mod Inside

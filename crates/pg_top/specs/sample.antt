@@ -1,3 +1,0 @@
--- What `sample` prints.
-pub mod SampleRule
-pub mod Inside

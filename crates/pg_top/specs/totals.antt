@@ -1,3 +1,0 @@
--- What `totals` reads and prints.
-pub mod TotalsRule
-pub mod Inside
