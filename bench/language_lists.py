@@ -3,11 +3,14 @@
 import collections
 import gzip
 import os
+import random
 import re
 import subprocess
 import tarfile
 import tempfile
 import unicodedata
+
+import hyphenation
 
 PATTERNS = "usr/share/texlive/texmf-dist/tex/generic/hyph-utf8/patterns"
 EXCEPTIONS = "usr/share/texlive/texmf-dist/tex/generic/hyphenex/ushyphex.tex"
@@ -15,7 +18,7 @@ WEBSTER = "usr/share/dictd/gcide.dict.dz"
 NORWEGIAN = "norwegian_2.2.orig.tar.gz"
 
 # What is taken out of a package.
-WANTED = re.compile(r"usr/share/(dict/|hunspell/[^/]*\.(dic|aff)$|dictd/gcide\.dict\.dz$|texlive/.*/(hyph-utf8/patterns/(txt|tex)/|hyphenex/))")
+WANTED = re.compile(r"usr/share/(dict/|hunspell/[^/]*\.(dic|aff)$|hyphen/[^/]*\.dic$|dictd/gcide\.dict\.dz$|texlive/.*/(hyph-utf8/patterns/(txt|tex)/|hyphenex/))")
 
 # The package of each pattern file of hyph-utf8.
 PATTERN_PACKAGES = {
@@ -147,6 +150,11 @@ class Packages:
         places = (os.path.join(self.folder, path), "/" + path)
         return next((place for place in places if os.path.exists(place)), None)
 
+    def names(self, folder, ending):
+        """The names of the files of a folder of packages that end so."""
+        places = (os.path.join(place, folder) for place in (self.folder, "/"))
+        return sorted({name for place in places if os.path.isdir(place) for name in os.listdir(place) if name.endswith(ending)})
+
     def fetch(self, package):
         """Downloads a package and unpacks what is wanted of it, without installing it; whether it could be had."""
         os.makedirs(self.folder, exist_ok=True)
@@ -163,13 +171,17 @@ class Packages:
                     for member in members:
                         if WANTED.match(member.name.removeprefix("./")) and not member.isdir():
                             members.extract(member, self.folder)
-            with open(os.path.join(self.folder, package + ".version"), "wb") as file:
+            with open(self.note(package), "wb") as file:
                 file.write(version)
         return True
 
+    def note(self, package):
+        """The path of the file that has the version of a package that was fetched."""
+        return os.path.join(self.folder, package + ".version")
+
     def version(self, package, path):
         """The version of the package that a file is from."""
-        noted = os.path.join(self.folder, package + ".version")
+        noted = self.note(package)
         if os.path.exists(noted) and os.path.exists(os.path.join(self.folder, path)):
             with open(noted, encoding="ascii") as file:
                 return file.read().strip()
@@ -279,18 +291,22 @@ class Patterns:
 
     def missed_mark(self):
         """The mark of a hyphen, which is no letter."""
-        return "=" if "-" in self.letters else "-"
+        return hyphenation.Table(self.translate().encode()).missed.decode()
 
     def translate(self):
         """The translate file: minima, marks, and each letter with its capital."""
-        left, right = self.minima
-        rows, used = [f"{left:2}{right:2}.{self.missed_mark()}*"], set(self.letters)
-        for letter in self.letters:
-            capital = letter.upper()
-            is_free = len(capital) == 1 and capital not in used
-            used.add(capital)
-            rows.append(f" {letter} {capital} " if is_free else f" {letter} ")
-        return "".join(row + "\n" for row in rows)
+        return hyphenation.drafted(self.letters, *self.minima).decode()
+
+
+def every_tag(packages):
+    """The tags of all pattern files that are there."""
+    return [name[len("hyph-") : -len(".pat.txt")] for name in packages.names(f"{PATTERNS}/txt", ".pat.txt")]
+
+
+def drawn_words(patterns, tag, count):
+    """Words put together from the strings of patterns, always the same ones for a tag."""
+    draw, strings = random.Random(tag), [string.strip(".") for string in sorted(patterns.values)]
+    return ["".join(draw.choices(strings, k=draw.randint(1, 4)))[:LONGEST] for _ in range(count)]
 
 
 def kept_words(words, patterns, tag):

@@ -1,4 +1,4 @@
-"""The tables of docs/LANGUAGES.md and its picture, from the results that bench/languages keeps."""
+"""The tables of docs/LANGUAGES.md and of bench/languages.md, and a picture, from the results that bench/languages keeps."""
 
 import os
 import re
@@ -74,6 +74,23 @@ def both_sets(results):
     """The cells of both sets of levels, and whether their patterns are patgen's."""
     cells = [cell for name in ("five", "eight") for cell in (totals(results.get(name)), seconds(results, name))]
     return " | ".join([*cells, equality(results)])
+
+
+def in_short(results, name):
+    """The number of patterns by one set, and the ratio of the times."""
+    found = results.get(name)
+    patterns = number(found["patterns"]) if found and "patterns" in found else ""
+    return "; ".join(it for it in (patterns, seconds(results, name).partition(": ")[2]) if it)
+
+
+def short_rows(rows):
+    """The table of the page."""
+    yield "| Language | Letters | Words | Five levels | Eight levels | Not needed |"
+    yield "|---|---|---|---|---|---|"
+    for words, results in rows:
+        made, share_of = results["words"], re.search(r"\((\d+ %)\)", not_needed(results))
+        yield (f"| {words.name} | {made['letters']} | {number(made['words'])} | {in_short(results, 'five')} | {in_short(results, 'eight')} | "
+               f"{share_of[1] if share_of else ''} |")
 
 
 def language_rows(rows):
@@ -189,15 +206,17 @@ def picture(title, levels):
 
 
 def write_page(root, rows, hand, versions, shown):
-    """Writes the tables into the page, and the picture of the levels of one list where there is one."""
-    path = os.path.join(root, "docs", "LANGUAGES.md")
-    with open(path, encoding="utf-8") as file:
-        page = file.read()
-    tables = {"The languages": language_rows(rows), "Lists that are marked by hand": hand_rows(hand), "Letters that patterns lack": lacking_rows(rows),
-              "What it cost": cost_rows(rows + hand), "The packages": package_rows(versions)}
-    page = with_tables(page, tables)
-    with open(path, "w", encoding="utf-8") as file:
-        file.write(page)
+    """Writes the tables into both pages, and the picture of the levels of one list where there is one."""
+    pages = {"docs/LANGUAGES.md": {"The languages": short_rows(rows)},
+             "bench/languages.md": {"The languages": language_rows(rows), "Lists that are marked by hand": hand_rows(hand),
+                                    "Letters that patterns lack": lacking_rows(rows), "What it cost": cost_rows(rows + hand),
+                                    "The packages": package_rows(versions)}}
+    for name, tables in pages.items():
+        path = os.path.join(root, name)
+        with open(path, encoding="utf-8") as file:
+            page = file.read()
+        with open(path, "w", encoding="utf-8") as file:
+            file.write(with_tables(page, tables))
     if not shown:
         return
     words, results = shown

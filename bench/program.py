@@ -1,6 +1,7 @@
 """What the scripts of this folder share: the built program, and folders with files."""
 
 import os
+import re
 import signal
 import subprocess
 import sys
@@ -39,6 +40,15 @@ def files_of(folder):
 def lines(*texts):
     """A text of these lines."""
     return "".join(text + "\n" for text in texts).encode()
+
+
+def example(checkout):
+    """README's example: its commands, and what it says that they print."""
+    with open(os.path.join(checkout, "README.md"), encoding="utf-8") as file:
+        blocks = re.search(r"((?:    .*\n)+)\nIt prints\n\n((?:    .*\n)+)", file.read())
+    if not blocks:
+        sys.exit("bench: README has no example")
+    return [re.sub(r"(?m)^    ", "", it) for it in blocks.groups()]
 
 
 def measured(words, folder, seconds=None):

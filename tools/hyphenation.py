@@ -8,19 +8,34 @@ import argparse
 import os
 import re
 import shutil
+import signal
 import subprocess
 import sys
 import tempfile
 
 HERE = os.path.dirname(os.path.realpath(__file__))
+BYTE_ORDER_MARK = b"\xef\xbb\xbf"
 
 
 class Trouble(Exception):
     """Why a script cannot go on."""
 
 
+class Stopped(BaseException):
+    """A signal that ends the script, after its folders are removed."""
+
+
+def stop(number, _):
+    """Ends the script by a signal."""
+    raise Stopped(number)
+
+
 def start(main):
-    """Runs the function `main`, and ends with the status that it gives, or with 2 where there is trouble."""
+    """Runs the function `main`, and ends with the status that it gives, with 2 where there is trouble, or by the signal that stops it."""
+    for number in (signal.SIGHUP, signal.SIGINT, signal.SIGTERM):
+        if signal.getsignal(number) != signal.SIG_IGN:
+            signal.signal(number, stop)
+    sys.stdout.reconfigure(encoding="utf-8", errors="surrogateescape")
     try:
         status = main()
         sys.stdout.flush()
@@ -31,6 +46,9 @@ def start(main):
         status = 2
         why = f"{trouble.filename or 'a file'}: {trouble.strerror}" if isinstance(trouble, OSError) else trouble
         print(f"{os.path.basename(sys.argv[0])}: {why}", file=sys.stderr)
+    except Stopped as stopped:
+        signal.signal(stopped.args[0], signal.SIG_DFL)
+        os.kill(os.getpid(), stopped.args[0])
     sys.exit(status)
 
 
@@ -48,13 +66,22 @@ def program():
     return os.path.abspath(found)
 
 
+def asked(*words):
+    """Runs the program with these words, and gives its status and what it printed."""
+    try:
+        done = subprocess.run([program(), *words], stdin=subprocess.DEVNULL, stdout=subprocess.PIPE, check=False)
+    except Stopped:
+        print(end="\n" if sys.stderr.isatty() else "", file=sys.stderr)  # behind the line that says how far the program is
+        raise
+    return done.returncode, done.stdout.decode(errors="replace").strip()
+
+
 def run(*words):
     """Runs the program with these words, and gives the lines that it printed. Any status but 0 is trouble."""
-    done = subprocess.run([program(), *words], stdin=subprocess.DEVNULL, stdout=subprocess.PIPE, check=False)
-    if done.returncode:
-        printed = done.stdout.decode(errors="replace").strip()
-        raise Trouble(f"{words[0]} ended with status {done.returncode}: {printed}")
-    return done.stdout.decode(errors="replace").split("\n")
+    status, printed = asked(*words)
+    if status:
+        raise Trouble(f"{words[0]} ended with status {status}: {printed}")
+    return printed.split("\n")
 
 
 def read_bytes(path):
@@ -82,25 +109,50 @@ def lines_of(data):
     return [piece[:-1] if piece.endswith(b"\r") else piece for piece in pieces]
 
 
+def without_byte_order_mark(data, name):
+    """What a file has, which may not begin with a byte order mark."""
+    if data.startswith(BYTE_ORDER_MARK):
+        raise Trouble(f"{name} begins with a byte order mark, which sed -i '1s/^\\xEF\\xBB\\xBF//' {name} takes out")
+    return data
+
+
 class Table:
     """The letters of a translate file, its minima and its marks. A letter is a number from 2 on, and 1 is the edge of a word."""
 
-    def __init__(self, data):
-        lines = lines_of(data)
+    def __init__(self, data, name="the translate file"):
+        lines = lines_of(without_byte_order_mark(data, name))
         head = (lines[0] if lines else b"").ljust(8)
         if not re.fullmatch(b"[0-9 ]{4}", head[:4]):
-            raise Trouble(f"the translate file begins with {head[:4].decode(errors='replace')!r}, where its two minima have to be")
+            raise Trouble(f"{name} stands where TRANSLATE is due, and begins with {head[:4].decode(errors='replace')!r} in place of two minima")
         self.left, self.right = (int(head[at : at + 2].replace(b" ", b"") or usual) for at, usual in ((0, 2), (2, 3)))
         self.error, self.missed, self.found, self.unsure = (
             head[at : at + 1] if head[at : at + 1] != b" " else usual for at, usual in zip(range(4, 8), (b".", b"-", b"*", b"?"))
         )
         letters = [letter_line(line) for line in lines[1:]] if lines else [[b"%c" % at, b"%c" % (at - 32)] for at in range(97, 123)]
         self.letters = [spellings for spellings in letters if spellings]
-        self.signs = {spelling: sign for sign, spellings in enumerate(self.letters, 2) for spelling in spellings}
         self.marks = self.error + self.missed + self.found + self.unsure
+        self.refuse_spellings(name)
+        self.begin()
+
+    def begin(self):
+        """Finds the signs of the spellings, and the expressions for the items of words and of patterns."""
+        self.signs = {spelling: sign for sign, spellings in enumerate(self.letters, 2) for spelling in spellings}
         known = b"|".join(re.escape(spelling) for spelling in self.signs) or b"(?!)"
         self.word_item = re.compile(b"(%s)|([0-9])|\\{([0-9]{1,4})\\}|([%s])" % (known, re.escape(self.marks)))
         self.pattern_item = re.compile(b"(%s|\\.)|([0-9])" % known)
+
+    def add_letters(self, patterns):
+        """Makes each character of UTF-8 a letter that patterns have and the table lacks."""
+        others = set(self.pattern_item.sub(b"", patterns).decode(errors="ignore")) - set(" \t\r\n")
+        self.letters += [[other.encode()] for other in sorted(others)]
+        self.begin()
+
+    def refuse_spellings(self, name):
+        """Refuses a spelling that no letter may have, as in a file of another kind."""
+        is_right = re.compile(b"[^0-9.{%s][^ \t\r]{0,7}" % re.escape(self.marks))
+        for spelling in (spelling for spellings in self.letters for spelling in spellings):
+            if not is_right.fullmatch(spelling):
+                raise Trouble(f"{name} stands where TRANSLATE is due, and {spelling.decode(errors='replace')!r} can be no letter there")
 
     def first(self, sign):
         """How a sign is written."""
@@ -117,11 +169,30 @@ class Table:
             at = found.end()
 
 
+def table_of(path):
+    """The table of a translate file."""
+    return Table(read_bytes(path), path)
+
+
 def letter_line(line):
     """The spellings of a line of a translate file."""
     line = line.rstrip(b" ")
     pieces = line[1:].split(line[:1]) if len(line) > 1 else []
     return pieces[: pieces.index(b"")] if b"" in pieces else pieces
+
+
+def drafted(letters, left, right):
+    """A translate file of these letters, each with its capital if that is one character and no letter itself."""
+    marks = ""
+    for usual in ".-*?":
+        marks += next(mark for mark in usual + "=~+#&" if mark not in letters and mark not in marks)
+    used = set(letters)
+    rows = []
+    for letter in sorted(letters):
+        capital = letter.upper()
+        rows.append(f" {letter} {capital}" if len(capital) == 1 and capital not in used else f" {letter}")
+        used.add(capital)
+    return "".join(row + "\n" for row in [f"{left:2}{right:2}{marks}", *rows]).encode()
 
 
 def number(value):
@@ -172,6 +243,14 @@ class Word:
         weight = lambda at: number(weights[at]) if at in weights else b""
         return b"".join(table.first(sign) + mark(at) + weight(at) for at, sign in enumerate(self.signs, 1))
 
+    def own_weights(self):
+        """The weights of places that differ from the word's."""
+        return {at: weight for at, weight in self.weights.items() if at < len(self.signs) and weight != self.weight}
+
+    def behind(self, weight, text):
+        """A text of this word as a line behind one whose word weight is the one given."""
+        return (number(self.weight) if self.weight != weight else b"") + text
+
     def takes_part(self, table):
         """Whether the word is long enough for the minima."""
         return len(self.signs) >= table.left + table.right
@@ -184,7 +263,7 @@ class Word:
 def words_of(table, data, name):
     """The words of a dictionary file, line by line."""
     weight = 1
-    for number, line in enumerate(lines_of(data), 1):
+    for number, line in enumerate(lines_of(without_byte_order_mark(data, name)), 1):
         word = Word(number, line, weight)
         for spelling, digit, braced, mark in table.items(table.word_item, line, f"{name} line {number}"):
             at, value = len(word.signs), digit or braced
@@ -203,7 +282,7 @@ def words_of(table, data, name):
 def entries_of(table, data, name):
     """The patterns of a pattern file as a map: from signs and the number of signs before a digit to the digit."""
     entries = {}
-    for number, line in enumerate(lines_of(data), 1):
+    for number, line in enumerate(lines_of(without_byte_order_mark(data, name)), 1):
         signs, digits = [], {}
         for spelling, digit in table.items(table.pattern_item, line, f"{name} line {number}"):
             if spelling:
@@ -214,6 +293,8 @@ def entries_of(table, data, name):
             key = (tuple(signs), dot)
             if digit:
                 entries[key] = max(digit, entries.get(key, 0))
+    if data.strip() and not entries:
+        raise Trouble(f"{name} stands where PATTERNS is due, and has no pattern")
     return entries
 
 
@@ -221,6 +302,14 @@ def written(table, signs, digits):
     """A line of a pattern file: the signs, with these digits by the number of signs before them."""
     digit = lambda dot: b"%d" % digits[dot] if dot in digits else b""
     return b"".join(digit(dot) + table.first(sign) for dot, sign in enumerate(signs)) + digit(len(signs))
+
+
+def pattern_file(table, entries):
+    """The pattern file of entries, with its lines in the order of the program."""
+    digits = {}
+    for (signs, dot), value in entries.items():
+        digits.setdefault(signs, {})[dot] = value
+    return b"".join(written(table, signs, digits[signs]) + b"\n" for signs in sorted(digits))
 
 
 class Matcher:
