@@ -236,12 +236,18 @@ class Word:
         """The word as a line of a dictionary, with hyphens and doubtful places, but without weights."""
         return self.line_with(table, self.hyphens(table), {})
 
-    def line_with(self, table, hyphens, weights):
-        """The word as a line of a dictionary, with these hyphens and weights of places, and with its doubtful places."""
+    def spelled(self, table):
+        """The letters of the word as its line spells them, capitals among them."""
+        return [spelling for spelling, *_ in table.items(table.word_item, self.line, "the word") if spelling]
+
+    def line_with(self, table, hyphens, weights, letters=None):
+        """The word as a line of a dictionary, with these hyphens and weights of places, and with its doubtful places. The letters are the
+        first spellings, or those that are given."""
+        letters = letters or [table.first(sign) for sign in self.signs]
         unsure = self.at(table, table.unsure)
         mark = lambda at: table.missed if at in hyphens else table.unsure if at in unsure else b""
         weight = lambda at: number(weights[at]) if at in weights else b""
-        return b"".join(table.first(sign) + mark(at) + weight(at) for at, sign in enumerate(self.signs, 1))
+        return b"".join(letter + mark(at) + weight(at) for at, letter in enumerate(letters, 1))
 
     def own_weights(self):
         """The weights of places that differ from the word's."""

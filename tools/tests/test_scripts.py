@@ -118,6 +118,11 @@ class CheckList(Case):
 
 
 class Carry(Case):
+    def test_capitals_stay(self):
+        self.put("d", "In-gelas\n")
+        self.put("marked", "in-ge-las\n")
+        self.prints("In-ge-las\n", "carry", "d", "marked", NO)
+
     def test_line_ends_stay(self):
         self.put("d", "of\r\ngard-en  the green one\r\nwa-ter\nbot-tle\r\n")
         self.put("marked", "gar*den\nbott*le\nwin*ter\n")
