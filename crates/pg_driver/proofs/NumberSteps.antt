@@ -1,5 +1,5 @@
 -- Steps of a pass by the numbers of its windows.
-use Rattle.std.proofs.Common.{◌≡◌, ℕ, zero, suc, ◌+◌, ◌<◌, Bool, true, false, cond, ◌&&◌, T, List, [], ◌∷◌, ◌++◌, filter, length, map, slice_get, is_some, Option, Some, None, inl, inr, refl, sym, ap, subst, ◌∙◌, arith, length-append}
+use Rattle.std.proofs.Common.{◌≡◌, ℕ, zero, suc, ◌+◌, ◌<◌, Bool, cond, T, List, [], ◌∷◌, ◌++◌, length, map, slice_get, Some, None, inl, inr, refl, sym, ap, subst, ◌∙◌, arith, length-append}
 use Rattle.std.specs.Ordering.{is_eq, eq_by_cmp, ordering_reverse}
 use Rattle.std.specs.declared.cmp.Ordering.TheVariants.{Less, Greater}
 use Rattle.std.specs.Cmp.{tied_itself}
@@ -9,7 +9,7 @@ use Rattle.std.proofs.lemmas.Bool.{cases_eq, cases_lt}
 use Rattle.std.proofs.lemmas.Option.{slice_get_cases, slice_get_within}
 use Rattle.pg_types.proofs.BoolFacts.{first_half, second_half}
 use Rattle.pg_types.proofs.EntryLists.{below_get}
-use Rattle.pg_types.specs.Inside.counting.Counts.{Counts, counted_sums, is_counted}
+use Rattle.pg_types.specs.Inside.counting.Counts.{Counts, counted_sums}
 use Rattle.pg_types.specs.Inside.counting.NumberedWindows.{Windows, HasNumber, AreInOrder}
 use Rattle.pg_dict.specs.Word.{Word}
 use Rattle.pg_select.specs.declared.pass.Pass.{Pass}
@@ -78,6 +78,24 @@ order_there ws (e ∷ counts) (m ∷ ns) is (suc k) n at =
     let all : slice_get ws m ∷ map (slice_get ws) ns ≡ Some e.0 ∷ map (λ e. Some e.0) counts = is in
     let rest : map (slice_get ws) ns ≡ map (λ e. Some e.0) counts = cc in
     order_there ws counts ns rest k n at
+
+-- a window whose number is in the order was counted
+pub order_counted : (ws : Windows) (all counts : Counts) (ns : List ℕ) → IsPart counts all → AreInOrder ws counts ns → (k n : ℕ) → slice_get ns k ≡ Some n
+    → (u : List ℕ) → HasNumber ws u n → (s : ℕ × ℕ) × (counted_sums all u ≡ Some s)
+order_counted ws all counts [] part is k n at u has = absurd (let none : None ≡ Some n = at in cc)
+order_counted ws all [] (m ∷ ns) part is k n at u has = absurd (let no : slice_get ws m ∷ map (slice_get ws) ns ≡ [] = is in cc)
+order_counted ws all (e ∷ counts) (m ∷ ns) part is zero n at u has =
+    let front : slice_get ws m ∷ map (slice_get ws) ns ≡ Some e.0 ∷ map (λ e. Some e.0) counts = is in
+    let here : slice_get ws m ≡ Some e.0 = cc in
+    let both : Some m ≡ Some n = at in
+    let same : m ≡ n = cc in
+    let told : Some u ≡ Some e.0 = sym has ∙ ap (slice_get ws) (sym same) ∙ here in
+    let window : u ≡ e.0 = cc in
+    (e.1, ap (counted_sums all) window ∙ part 0 e refl)
+order_counted ws all (e ∷ counts) (m ∷ ns) part is (suc k) n at u has =
+    let front : slice_get ws m ∷ map (slice_get ws) ns ≡ Some e.0 ∷ map (λ e. Some e.0) counts = is in
+    let rest : map (slice_get ws) ns ≡ map (λ e. Some e.0) counts = cc in
+    order_counted ws all counts ns (λ j f there. part (suc j) f there) rest k n at u has
 
 -- the window of a number and its sums are the only ones
 pub only_one : (ws : Windows) (counts : Counts) (n : ℕ) (u : List ℕ) (s : ℕ × ℕ) (v : List ℕ) (t : ℕ × ℕ) → HasNumber ws u n → counted_sums counts u

@@ -1,5 +1,5 @@
 -- Dots close at the open signs by the numbers of their windows.
-use Rattle.std.proofs.Common.{◌≡◌, ℕ, ◌<◌, Bool, true, false, cond, ◌||◌, nat_eq, List, slice_get, Option, Some, None, inl, inr, refl, sym, ap, ◌∙◌}
+use Rattle.std.proofs.Common.{◌≡◌, ℕ, Bool, true, false, cond, ◌||◌, nat_eq, List, slice_get, Option, Some, None, inl, inr, refl, sym, ap, ◌∙◌}
 use Rattle.std.specs.Option.{option_map_or}
 use Rattle.std.proofs.lemmas.Bool.{cases_Bool}
 use Rattle.pg_types.specs.declared.parameters.LevelParams.{LevelParams}
@@ -11,7 +11,7 @@ use Rattle.pg_select.specs.declared.pass.Pass.{Pass}
 use Rattle.pg_select.specs.Inside.Choices.{choice}
 use Rattle.pg_select.specs.Windows.{window, fits}
 use Rattle.pg_driver.specs.declared.pass_windows.WordPosition.{WordPosition}
-use Rattle.pg_driver.specs.Inside.counting.OpenSigns.{ClosesBy, HasFate, closed_at_sign, closed_by, closed_in, position_from, sign_count}
+use Rattle.pg_driver.specs.Inside.counting.OpenSigns.{ClosesBy, HasFate, closed_at_sign, closed_by, closed_in, position_from}
 use Rattle.pg_driver.specs.Inside.level.PassWindows.{AreFates, fate_of_sums}
 use Rattle.pg_driver.proofs.OpenSigns.{place_of, sign_of}
 

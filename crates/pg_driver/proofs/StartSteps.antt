@@ -1,22 +1,21 @@
 -- The starts of the windows that passes count, and their numbers.
-use Rattle.std.proofs.Common.{◌≡◌, ℕ, ◌+◌, ◌-◌, ◌≤◌, ◌<◌, nat_eq, Bool, true, false, not, ◌&&◌, ◌||◌, cond, List, [], ◌∷◌, length, take, drop, slice_get, get_or, Option, Some, None, inl, inr, refl, sym, ap, subst, ◌∙◌, arith}
-use Rattle.std.specs.List.{All, list_all}
+use Rattle.std.proofs.Common.{◌≡◌, ℕ, ◌+◌, ◌-◌, ◌≤◌, ◌<◌, nat_eq, Bool, true, false, not, ◌||◌, cond, T, List, [], ◌∷◌, length, drop, slice_get, get_or, Option, Some, None, refl, sym, ap, subst, ◌∙◌, arith}
+use Rattle.std.specs.List.{All}
+use Rattle.std.specs.Ordering.{nat_cmp}
+use Rattle.std.specs.Cmp.Lexicographic.{slice_cmp}
+use Rattle.std.specs.FinMap.Entries.{is_sorted}
 use Rattle.std.specs.Option.{option_map_or}
 use Rattle.std.proofs.lemmas.Bool.{le-leb}
-use Rattle.std.proofs.lemmas.List.{length-map}
 use Rattle.std.proofs.lemmas.List.Elements.{All-append, All-drop, All-head, All-nil, All-tail, All-take, All-weaker}
 use Rattle.std.proofs.lemmas.List.Sums.{list_all-from_AllPass}
-use Rattle.std.proofs.lemmas.Option.{slice_get_within}
-use Rattle.std.proofs.lemmas.Bool.{and_from, and_parts, cases_Bool, eq-eqb, eqb-true}
-use Rattle.pg_types.specs.declared.limits.TheConstants.{LENGTH_MAX}
+use Rattle.std.proofs.lemmas.Bool.{and_from, and_parts, eq-eqb, eqb-true}
 use Rattle.pg_types.specs.declared.parameters.LevelParams.{LevelParams}
 use Rattle.pg_types.specs.Inside.Signs.{SignsWithin, is_sign}
 use Rattle.pg_types.specs.Inside.counting.Counts.{Counts, counted_sums}
-use Rattle.pg_types.specs.Inside.counting.NumberedWindows.{HasNumber, Windows}
+use Rattle.pg_types.specs.Inside.counting.NumberedWindows.{AreInOrder, HasNumber, Windows}
 use Rattle.pg_dict.specs.Inside.Store.{all_signs}
 use Rattle.pg_dict.specs.Inside.SoundWords.{IsWord, SignsAtMost}
 use Rattle.pg_dict.specs.Word.{Word}
-use Rattle.pg_dots.specs.Inside.Dots.{is_closed}
 use Rattle.pg_select.specs.declared.choice.Choice.{Choice}
 use Rattle.pg_select.specs.declared.choice.Choice.TheVariants.{Hopeless as GivenUp, Chosen, Left}
 use Rattle.pg_select.specs.declared.pass.Pass.{Pass}
@@ -25,21 +24,22 @@ use Rattle.pg_select.specs.Windows.{window, fits}
 use Rattle.pg_starts.specs.declared.start_numbers.StartNumbers.{StartNumbers}
 use Rattle.pg_starts.specs.declared.start_counts.StartCounts.{StartCounts}
 use Rattle.pg_starts.specs.Inside.Known.{AreKnown, is_numbered}
-use Rattle.pg_starts.specs.Inside.StartCountings.{AreCounting, windows_in}
+use Rattle.pg_starts.specs.Inside.StartCountings.{AreCounting, counts_in, windows_in}
 use Rattle.pg_starts.specs.Inside.Starts.{window_from}
-use Rattle.pg_starts.proofs.Numbering.{get_mapped}
+use Rattle.pg_starts.proofs.Counted.{counted_start}
+use Rattle.pg_starts.proofs.Numbering.{number_ends}
 use Rattle.pg_starts.proofs.Orders.{length_window}
-use Rattle.pg_starts.proofs.Tests.{window_ends}
-use Rattle.pg_driver.specs.declared.choices.Choices.{Choices}
 use Rattle.pg_driver.specs.declared.counting.WayToCount.{WayToCount}
 use Rattle.pg_driver.specs.declared.counting.WayToCount.TheVariants.{Open, EachWord}
 use Rattle.pg_driver.specs.declared.pass_windows.WordPosition.{WordPosition}
 use Rattle.pg_driver.specs.Inside.choices.LookAhead.{FitCursors}
 use Rattle.pg_driver.specs.Inside.counting.Counting.{AreNumbersFor}
+use Rattle.pg_driver.specs.Inside.level.PassWindows.{IsCandidate}
 use Rattle.pg_driver.specs.Inside.counting.LevelCounting.{AreNumbersIn, HasSize, IsReady}
-use Rattle.pg_driver.specs.Inside.counting.OpenSigns.{HasFate, closed_at_sign, closed_by, closed_in, open_at, position_from, sign_count, start_of}
+use Rattle.pg_driver.specs.Inside.counting.OpenSigns.{HasFate, closed_at_sign, closed_by, closed_in, open_at, position_from, start_of}
 use Rattle.pg_driver.specs.Traces.{Knowledge, Source}
 use Rattle.pg_driver.proofs.FlatSigns.{fit_within, flat_inside}
+use Rattle.pg_driver.proofs.NumberSteps.{order_counted, part_whole}
 use Rattle.pg_driver.proofs.OpenSigns.{IsSignOf, place_of, sign_within}
 
 -- a window that fits ends among all signs, and its dot is at one of them
@@ -153,20 +153,16 @@ pub numbers_same : (words : List Word) (len room : ℕ) (old new : ℕ → ℕ �
 numbers_same words len room old new n numbers size same =
     numbers_closing words len old new n numbers (λ d s low was. same d s (omega arith) ∙ was)
 
--- the windows that are numbered have their length, and signs of the words
-module _ (words : List Word) (c : StartCounts) (counting : AreCounting (all_signs words) c) (u : List ℕ) (k : ℕ) (has : HasNumber (windows_in (all_signs words) c) u k) where
+-- the windows that were counted have their length, and signs of the words
+module _ (words : List Word) (c : StartCounts) (counting : AreCounting (all_signs words) c) (u : List ℕ) (k : ℕ) (sums : ℕ × ℕ) (it : IsCandidate (all_signs words) c k u sums) where
   abbrev start : ℕ
-  start = get_or c.numbers.firsts.items k 0
-
-  low : k < length c.numbers.firsts.items
-  low = (let inside = slice_get_within (windows_in (all_signs words) c) k u has in
-      omega (arith, inside, length-map c.numbers.firsts.items (λ i. window_from (all_signs words) i c.numbers.len)))
+  start = (counted_start (all_signs words) c counting u k sums it.number it.sums).0
 
   is_window : u ≡ window_from (all_signs words) start c.numbers.len
-  is_window = (let both : Some u ≡ Some (window_from (all_signs words) start c.numbers.len) = sym has ∙ get_mapped (λ i. window_from (all_signs words) i c.numbers.len) c.numbers.firsts.items k low in cc)
+  is_window = (counted_start (all_signs words) c counting u k sums it.number it.sums).2
 
   ends : start + c.numbers.len ≤ length (all_signs words)
-  ends = window_ends (all_signs words) c.numbers.starts c.numbers.len start ((counting.known.numbers counting.some).taken k low).0
+  ends = number_ends (all_signs words) c.numbers start (counted_start (all_signs words) c counting u k sums it.number it.sums).1
 
   pub window_size : length u ≡ c.numbers.len
   window_size = ap (λ (v : List ℕ). length v) is_window ∙ length_window (all_signs words) start c.numbers.len ends
@@ -184,15 +180,15 @@ module _ (words : List Word) (c : StartCounts) (counting : AreCounting (all_sign
   each_sign : All (λ s. 1 ≤ s) (all_signs words)
   each_sign = all_of (λ s. 1 ≤ s) words (All-weaker IsWord (λ (w : Word). All (λ s. 1 ≤ s) w.signs) (λ w is. is.signs) words sound)
 
-  pub windows_fit : c.numbers.len ≤ LENGTH_MAX → FitCursors (windows_in (all_signs words) c)
-  windows_fit short u k has =
-      let all : All (λ s. 1 ≤ s) u = window_all words c counting u k has (λ s. 1 ≤ s) each_sign in (
-        omega (arith, short, window_size words c counting u k has),
-        list_all-from_AllPass is_sign u (λ i d low. le-leb 1 (get_or u i d) (all i d low)),
-      )
+  pub windows_fit : (order : List ℕ) → AreInOrder (windows_in (all_signs words) c) (counts_in (all_signs words) c) order → T (is_sorted (slice_cmp nat_cmp) (counts_in (all_signs words) c))
+      → FitCursors (windows_in (all_signs words) c) order
+  windows_fit order is sorted k n u at has =
+      let counted = order_counted (windows_in (all_signs words) c) (counts_in (all_signs words) c) (counts_in (all_signs words) c) order (part_whole (counts_in (all_signs words) c) sorted) is k n at u has in
+      let all : All (λ s. 1 ≤ s) u = window_all words c counting u n counted.0 (record { number = has; sums = counted.1 }) (λ s. 1 ≤ s) each_sign in
+      list_all-from_AllPass is_sign u (λ i d low. le-leb 1 (get_or u i d) (all i d low))
 
-  pub windows_enter : (n len : ℕ) → SignsAtMost n words → c.numbers.len ≡ len → (u : List ℕ) (k : ℕ) → HasNumber (windows_in (all_signs words) c) u k → (length u ≡ len) × SignsWithin n u
-  windows_enter n len most is u k has =
-      let some : All (λ s. 1 ≤ s) u = window_all words c counting u k has (λ s. 1 ≤ s) each_sign in
-      let low : All (λ s. s ≤ n) u = window_all words c counting u k has (λ s. s ≤ n) (all_of (λ s. s ≤ n) words most) in
-      (window_size words c counting u k has ∙ is, λ i d inside. (some i d inside, low i d inside))
+  pub windows_enter : (n len : ℕ) → SignsAtMost n words → c.numbers.len ≡ len → (u : List ℕ) (k : ℕ) (sums : ℕ × ℕ) → IsCandidate (all_signs words) c k u sums → (length u ≡ len) × SignsWithin n u
+  windows_enter n len most is u k sums it =
+      let some : All (λ s. 1 ≤ s) u = window_all words c counting u k sums it (λ s. 1 ≤ s) each_sign in
+      let low : All (λ s. s ≤ n) u = window_all words c counting u k sums it (λ s. s ≤ n) (all_of (λ s. s ≤ n) words most) in
+      (window_size words c counting u k sums it ∙ is, λ i d inside. (some i d inside, low i d inside))

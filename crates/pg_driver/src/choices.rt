@@ -103,8 +103,9 @@ pub fn choose_all<E: Engine>(
 ) -> Result<Choices, AllocError>
     requires level { IsLevel params.now }
     requires counting { AreCounting signs.now counts.now }
-    requires cursors { FitCursors (windows_in signs.now counts.now) }
-    requires enter { (u : List ℕ) (n : ℕ) → HasNumber (windows_in signs.now counts.now) u n
+    requires cursors { FitCursors (windows_in signs.now counts.now) order.now }
+    requires enter { (u : List ℕ) (n : ℕ) (sums : ℕ × ℕ)
+        → IsCandidate signs.now counts.now n u sums
         → (length u ≡ (E.meaning engine.old).pass.len)
         × SignsWithin (E.meaning engine.old).signs u }
     requires room { HasRoom (counts_in signs.now counts.now) 0 }

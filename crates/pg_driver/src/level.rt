@@ -5,7 +5,7 @@ ghost use Rattle.pg_types.specs.Inside.Ranges.{IsLevel};
 ghost use Rattle.pg_dict.specs.Inside.SoundWords.{SignsAtMost};
 ghost use Rattle.pg_select.specs.Inside.laws.Steps.{IsBelow};
 ghost use Rattle.pg_driver.specs.Accounts.{totals_by};
-ghost use Rattle.pg_driver.specs.Inside.counting.LevelCounting.{AreNumbersIn, HasEnded, IsCounted, IsReady, TellsTotals};
+ghost use Rattle.pg_driver.specs.Inside.counting.LevelCounting.{AreNumbersIn, HasEnded, HasSize, IsCounted, IsReady, MayHaveNumbers, TellsTotals};
 ghost use Rattle.pg_dict.specs.Inside.Store.{all_signs};
 ghost use Rattle.pg_starts.specs.Inside.Known.{AreKnown};
 ghost use Rattle.pg_driver.specs.Inside.level.Levels.{AreRecorded, BeganAll, DidLevel, GoesOn, WillCount, all_made_by, point};
@@ -91,8 +91,31 @@ fn run_pass<E: Engine>(
     })
 }
 
+/// Numbers the windows of a length, unless they have numbers.
+fn number_once(
+    alloc: Global,
+    dictionary: &Dictionary,
+    len: u8,
+    counting: &WayToCount,
+    windows: &mut PassWindows,
+) -> Result<(), AllocError>
+    requires len { (1 ≤ len) × (len ≤ LENGTH_MAX) }
+    requires size { HasSize dictionary.now counting.now }
+    requires numbers { MayHaveNumbers dictionary.now len windows.old counting.now }
+    ensures { OnOk result
+        (AreNumbersIn dictionary.now len windows.new.counts.numbers counting.now) }
+{
+    if windows.numbered {
+        return Ok(());
+    }
+    counting.number(alloc, dictionary, len, windows)?;
+    windows.numbered = true;
+    Ok(())
+}
+
 /// Does a pass and records it, or skips it where it can have no candidate.
 fn run_or_skip<E: Engine>(
+    alloc: Global,
     engine: &mut E,
     dictionary: &Dictionary,
     table: &Table,
@@ -112,9 +135,9 @@ fn run_or_skip<E: Engine>(
     requires ready { IsReady (source_of table.now dictionary.now) pass.level pass.len
         (known_of (E.meaning engine.old))
         counting.old }
-    requires numbers { AreNumbersIn dictionary.now pass.len windows.old.counts.numbers counting.old }
+    requires numbers { MayHaveNumbers dictionary.now pass.len windows.old counting.old }
     ensures numbers { OnOk result
-        (AreNumbersIn dictionary.now pass.len windows.new.counts.numbers counting.new) }
+        (MayHaveNumbers dictionary.now pass.len windows.new counting.new) }
     ensures ok { OnOk result (GoesOn (source_of table.now dictionary.now) pass.level pass.len
         (made_by (source_of table.now dictionary.now) params.now (E.meaning engine.old) pass ∷ [])
         (point (E.meaning engine.old) records.old skippable.old)
@@ -134,6 +157,7 @@ fn run_or_skip<E: Engine>(
         skippable.set(pass.dot, true);
         return Ok(());
     }
+    number_once(alloc, dictionary, pass.len, counting, windows)?;
     let record = run_pass(engine, dictionary, table, params, pass, counting, windows)?;
     skippable.set(pass.dot, record.left_none());
     records.add_pass(record)?;
@@ -182,7 +206,7 @@ fn run_length<E: Engine>(
     ensures counted { OnOk result (IsCounted counting.new) }
     ensures signs { (E.meaning engine.new).signs ≡ (E.meaning engine.old).signs }
 {
-    counting.number(alloc, dictionary, len, windows)?;
+    windows.numbered = false;
     let end = len + 1;
     'dots: for k in 0..end {
         let pass = Pass {
@@ -191,7 +215,7 @@ fn run_length<E: Engine>(
             dot: dot_at(len, k),
         };
         run_or_skip(
-            engine, dictionary, table, params, pass, skippable, counting, windows, records,
+            alloc, engine, dictionary, table, params, pass, skippable, counting, windows, records,
         )?;
     }
     Ok(())

@@ -4,6 +4,7 @@ ghost use Rattle.std.specs.Option.{IfSome};
 ghost use Rattle.pg_types.specs.Inside.Limits.{sums_limit};
 ghost use Rattle.pg_types.specs.Inside.Ranges.{IsLevel};
 ghost use Rattle.pg_starts.specs.Inside.CountsByNumber.{counted_from};
+ghost use Rattle.pg_starts.specs.Inside.Tallies.{tallied};
 ghost use Rattle.pg_starts.specs.Inside.StartCountings.{AreCounting, counts_in, windows_in};
 ghost use Rattle.pg_driver.specs.declared.pass_windows.TheConstants.{NO_NUMBER};
 ghost use Rattle.pg_driver.specs.Inside.counting.Counting.{HasRoom};
@@ -32,6 +33,9 @@ pub struct WordPosition {
 pub struct PassWindows {
     /// The windows that are counted, by the numbers of their starts.
     pub counts: StartCounts,
+    /// Whether the windows of the length that is at work have numbers. They get them before its
+    /// first pass that isn't skipped.
+    pub numbered: bool,
     /// The number of the window of each position that is listed, in the order of these positions.
     pub numbers: Vec<u32>,
     /// The numbers of the counted windows, in the order of signs.
@@ -61,6 +65,7 @@ impl PassWindows {
         let counts = StartCounts::new(alloc, signs)?;
         Ok(PassWindows {
             counts,
+            numbered: false,
             numbers: Vec::new(alloc),
             order: Vec::new(alloc),
             fates: Vec::new(alloc),
@@ -119,7 +124,7 @@ fn decide_all(
     requires no_order { order.old.items ≡ [] }
     requires no_fates { fates.old.items ≡ [] }
     ensures order { OnOk result
-        (order.new.items ≡ counted_from 0 counts.now.tallies.sums.items) }
+        (order.new.items ≡ counted_from 0 (tallied counts.now.tallies)) }
     ensures fates { OnOk result (AreFates params.now (counts_in signs.now counts.now)
         (windows_in signs.now counts.now) fates.new.items) }
 {

@@ -4,4 +4,6 @@ pub mod SetLaws
 pub mod Families
 pub mod Tests
 pub mod Tallying
+pub mod CodeLaws
 pub mod Numbering
+pub mod Counted

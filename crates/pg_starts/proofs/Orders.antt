@@ -7,6 +7,8 @@ use Rattle.std.specs.Cmp.Lexicographic.{slice_cmp, nat_list_cmp_total, texts_tie
 use Rattle.std.proofs.lemmas.Bool.{cases_eq, eq-eqb, ne_eqb}
 use Rattle.std.proofs.lemmas.Bool.Decides.{nat_tests}
 use Rattle.std.proofs.lemmas.List.{take_more, length-take-le, length-drop, get_or-drop}
+use Rattle.std.proofs.lemmas.Nat.{mul-add-lt}
+use Rattle.std.proofs.Math.Nat.{mul_comm}
 use Rattle.std.proofs.lemmas.Cmp.{ranked, by_ranked, tied_itself}
 use Rattle.pg_starts.specs.Inside.Starts.{window_from, window_order, part_behind, part_of}
 use Rattle.pg_starts.specs.Inside.Orders.{AreOrdered, AreNumbers, then_part}
@@ -41,19 +43,24 @@ cmp_equal m n h = grind (arith, nat_tests)
 pub cmp_greater : (m n : ℕ) → n < m → nat_cmp m n ≡ Greater
 cmp_greater m n h = grind (arith, nat_tests)
 
-same_high : (m n a b : ℕ) → m ≡ n → nat_cmp (m * 64 + a) (n * 64 + b) ≡ nat_cmp a b
-same_high m n a b same = by_ranked (a < b) (a ≡ b) (b < a) (nat_cmp a b) (ranked a b (nat_cmp a b) refl)
-    (λ e h. cmp_less (m * 64 + a) (n * 64 + b) (omega arith) ∙ sym e)
-    (λ e h. cmp_equal (m * 64 + a) (n * 64 + b) (omega arith) ∙ sym e)
-    (λ e h. cmp_greater (m * 64 + a) (n * 64 + b) (omega arith) ∙ sym e)
+same_high : (r m n a b : ℕ) → m ≡ n → nat_cmp (m * r + a) (n * r + b) ≡ nat_cmp a b
+same_high r m n a b same =
+    let high : m * r ≡ n * r = ap (λ k. k * r) same in
+    by_ranked (a < b) (a ≡ b) (b < a) (nat_cmp a b) (ranked a b (nat_cmp a b) refl)
+    (λ e h. cmp_less (m * r + a) (n * r + b) (omega arith) ∙ sym e)
+    (λ e h. cmp_equal (m * r + a) (n * r + b) (omega arith) ∙ sym e)
+    (λ e h. cmp_greater (m * r + a) (n * r + b) (omega arith) ∙ sym e)
+
+less_high : (r m n a b : ℕ) → m < n → a < r → m * r + a < n * r + b
+less_high r m n a b less low = omega (arith, mul-add-lt m r a n less low, mul_comm r n)
 
 -- pairs packed into one number compare as pairs
-pub cmp_pack : (m n a b : ℕ) → a < 64 → b < 64
-    → nat_cmp (m * 64 + a) (n * 64 + b) ≡ ordering_then (nat_cmp m n) (nat_cmp a b)
-cmp_pack m n a b low high = by_ranked (m < n) (m ≡ n) (n < m) (nat_cmp m n) (ranked m n (nat_cmp m n) refl)
-    (λ e h. cmp_less (m * 64 + a) (n * 64 + b) (omega arith) ∙ sym (ap (λ o. ordering_then o (nat_cmp a b)) e))
-    (λ e h. same_high m n a b h ∙ sym (ap (λ o. ordering_then o (nat_cmp a b)) e))
-    (λ e h. cmp_greater (m * 64 + a) (n * 64 + b) (omega arith) ∙ sym (ap (λ o. ordering_then o (nat_cmp a b)) e))
+pub cmp_pack : (r m n a b : ℕ) → a < r → b < r
+    → nat_cmp (m * r + a) (n * r + b) ≡ ordering_then (nat_cmp m n) (nat_cmp a b)
+cmp_pack r m n a b low high = by_ranked (m < n) (m ≡ n) (n < m) (nat_cmp m n) (ranked m n (nat_cmp m n) refl)
+    (λ e h. cmp_less (m * r + a) (n * r + b) (less_high r m n a b h low) ∙ sym (ap (λ o. ordering_then o (nat_cmp a b)) e))
+    (λ e h. same_high r m n a b h ∙ sym (ap (λ o. ordering_then o (nat_cmp a b)) e))
+    (λ e h. cmp_greater (m * r + a) (n * r + b) (less_high r n m b a h high) ∙ sym (ap (λ o. ordering_then o (nat_cmp a b)) e))
 
 -- a window of one sign more
 pub window_more : (signs : List ℕ) (i len : ℕ) → i + len < length signs
@@ -95,8 +102,8 @@ parts_compare a b =
     let high_x : a / 4096 * 64 + a / 64 % 64 ≡ a / 64 = omega arith in
     let high_y : b / 4096 * 64 + b / 64 % 64 ≡ b / 64 = omega arith in
     ap (λ o. ordering_then o (nat_cmp (a % 64) (b % 64)))
-    (sym (cmp_pack (a / 4096) (b / 4096) (a / 64 % 64) (b / 64 % 64) (omega arith) (omega arith)) ∙ (λ k. nat_cmp (high_x k) (high_y k)))
-    ∙ sym (cmp_pack (a / 64) (b / 64) (a % 64) (b % 64) (omega arith) (omega arith)) ∙ (λ k. nat_cmp (x k) (y k))
+    (sym (cmp_pack 64 (a / 4096) (b / 4096) (a / 64 % 64) (b / 64 % 64) (omega arith) (omega arith)) ∙ (λ k. nat_cmp (high_x k) (high_y k)))
+    ∙ sym (cmp_pack 64 (a / 64) (b / 64) (a % 64) (b % 64) (omega arith) (omega arith)) ∙ (λ k. nat_cmp (x k) (y k))
 
 -- windows that take in a sign in its three parts
 pub sign_order : (signs : List ℕ) (at i j : ℕ) → i + at < length signs → j + at < length signs
@@ -132,13 +139,6 @@ pub ordered_fewer : (order : ℕ → ℕ → Ordering) (more fewer : ℕ → Boo
 ordered_fewer order more fewer num count among a = record {
   below = λ i x. a.below i (among i x);
   compare = λ i j x y. a.compare i j (among i x) (among j y);
-}
-
--- windows of no sign are all equal
-pub ordered_nothing : (signs : List ℕ) (test : ℕ → Bool) (num : List ℕ) → ((i : ℕ) → get_or num i 0 ≡ 0) → AreOrdered (window_order signs 0) test num 1
-ordered_nothing signs test num zero = record {
-  below = λ i x. (let is = zero i in omega arith);
-  compare = λ i j x y. cmp_equal _ _ (zero i ∙ sym (zero j));
 }
 
 -- a part of a sign is less than 64

@@ -3,7 +3,6 @@ use Rattle.std.proofs.Common.{◌≡◌, ◌≢◌, ℕ, ◌+◌, ◌*◌, ◌<�
 use mathlib.Core.Bool.{true≢false}
 use Rattle.std.specs.declared.cmp.Ordering.{Ordering}
 use Rattle.std.specs.Ordering.{nat_cmp, ordering_then}
-use Rattle.std.specs.List.{Contains}
 use Rattle.std.specs.List.Sorted.{IsStrictlyIncreasing}
 use Rattle.std.proofs.lemmas.Bool.{cases_lt, cases_eq}
 use Rattle.std.proofs.lemmas.Cmp.{ranked, by_ranked}
@@ -112,7 +111,7 @@ module _ (test : ℕ → Bool) (part : ℕ → ℕ) (old keys : List ℕ) where
           cmp_places k.rising (get_or next i 0) (get_or next j 0) x.0 y.0
           ∙ ap (λ v. nat_cmp v (get_or keys (get_or next j 0) 0)) x.1
           ∙ ap (nat_cmp (key_at part old i)) y.1
-          ∙ cmp_pack (get_or old i 0) (get_or old j 0) (part i) (part j) (narrow i) (narrow j)
+          ∙ cmp_pack 64 (get_or old i 0) (get_or old j 0) (part i) (part j) (narrow i) (narrow j)
           ∙ ap (λ o. ordering_then o (nat_cmp (part i) (part j))) (a.compare i j hi hj);
     };
     taken = λ p low.

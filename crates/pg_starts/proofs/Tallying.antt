@@ -1,9 +1,9 @@
 -- The counts of windows whose sums stand by number.
-use Rattle.std.proofs.Common.{◌≡◌, ℕ, zero, suc, ◌+◌, ◌<◌, Bool, true, false, cond, T, List, [], ◌∷◌, ◌++◌, length, map, set, get_or, drop, replicate, slice_get, Option, Some, None, refl, sym, ap, subst, ◌∙◌, arith}
+use Rattle.std.proofs.Common.{◌≡◌, ℕ, zero, suc, ◌+◌, ◌<◌, Bool, true, cond, T, List, [], ◌∷◌, length, map, set, get_or, replicate, slice_get, Option, Some, None, refl, sym, ap, subst, ◌∙◌, arith}
 use Rattle.std.specs.Option.{unwrap_or}
 use Rattle.std.specs.Ordering.{is_eq, is_lt, nat_cmp, ordering_reverse}
 use Rattle.std.specs.declared.cmp.Ordering.{Ordering}
-use Rattle.std.specs.declared.cmp.Ordering.TheVariants.{Less, Equal, Greater}
+use Rattle.std.specs.declared.cmp.Ordering.TheVariants.{Less, Greater}
 use Rattle.std.specs.Cmp.{tied_itself}
 use Rattle.std.specs.Cmp.Lexicographic.{slice_cmp, nat_list_cmp_total}
 use Rattle.std.specs.FinMap.Entries.{put, find, is_sorted, below_all, by_order}
@@ -11,7 +11,7 @@ use Rattle.pg_types.proofs.BoolFacts.{less_is, and_first, and_second, holds}
 use Rattle.std.proofs.lemmas.Bool.{and_from}
 use Rattle.pg_types.specs.Inside.counting.Counts.{Counts, sums_of, with_count, with_weight}
 use Rattle.pg_types.specs.Inside.counting.NumberedWindows.{Windows, AreInOrder}
-use Rattle.pg_starts.specs.Inside.CountsByNumber.{Tallied, IsRising, counts_by, counted_from}
+use Rattle.pg_starts.specs.Inside.CountsByNumber.{Tallied, IsRising, counts_by, counted_from, told_by}
 
 abbrev cmp : List ℕ → List ℕ → Ordering
 cmp = slice_cmp nat_cmp
@@ -98,6 +98,16 @@ pub none_counted : (ws : Windows) (n : ℕ) → counts_by ws (replicate n None) 
 none_counted [] n = refl
 none_counted (w ∷ ws) zero = refl
 none_counted (w ∷ ws) (suc n) = none_counted ws n
+
+pub none_at : (n k : ℕ) → get_or (let ts : Tallied = replicate n None in ts) k None ≡ None
+none_at zero k = refl
+none_at (suc n) zero = refl
+none_at (suc n) (suc k) = none_at n k
+
+-- numbers that are all 0 tell of no sums
+pub none_told : (n : ℕ) → map told_by (let ks : List (ℕ × ℕ) = replicate n (0, 0) in ks) ≡ replicate n None
+none_told zero = refl
+none_told (suc n) = ap (λ (ts : Tallied). None ∷ ts) (none_told n)
 
 -- the numbers that were counted are in the order of signs
 pub in_order : (all : Windows) (k : ℕ) (ws : Windows) (ts : Tallied) → ((j : ℕ) → slice_get ws j ≡ slice_get all (k + j)) → length ts ≡ length ws

@@ -1,10 +1,10 @@
 -- The starts that have a window, and the walk over them.
-use Rattle.std.proofs.Common.{◌≡◌, ℕ, ◌+◌, ◌-◌, ◌<◌, ◌≤◌, nat_le, Bool, true, false, not, ◌&&◌, List, length, inl, inr, refl, sym, ap, ◌∙◌, arith}
-use Rattle.std.proofs.lemmas.Bool.{cases_lt, cases_Bool, le-leb, lt-leb, leb-true}
+use Rattle.std.proofs.Common.{◌≡◌, ℕ, ◌+◌, ◌<◌, ◌≤◌, nat_le, Bool, true, false, not, ◌&&◌, List, length, refl, ap}
+use Rattle.std.proofs.lemmas.Bool.{le-leb, leb-true}
 use Rattle.pg_dots.specs.declared.start_set.StartSet.{StartSet}
 use Rattle.pg_dots.specs.declared.walk.Walk.{Walk}
 use Rattle.pg_dots.specs.Inside.Starts.{HasStartWalk, is_left_out, starts_room}
-use Rattle.pg_dots.specs.Inside.Walks.{IsAhead, IsFirstFailing}
+use Rattle.pg_dots.specs.Inside.Walks.{IsAhead}
 use Rattle.pg_starts.specs.Inside.Starts.{has_window}
 
 both : (a b : Bool) → (not a && b) ≡ true → (a ≡ false) × (b ≡ true)

@@ -3,6 +3,8 @@ pub mod Starts
 pub mod Orders
 pub mod Sets
 pub mod Cells
+pub mod Codes
 pub mod Known
 pub mod CountsByNumber
+pub mod Tallies
 pub mod StartCountings

@@ -41,7 +41,8 @@ fn family_end(keys: &[u64], from: usize) -> usize
 /// Whether a family fits at a base.
 fn fits_at(cells: &[u32], family: &[u64], base: usize) -> bool
     requires near { base ≤ length cells.now }
-    ensures { IsTrue result → (k : ℕ) → k < length family.now → IsFree cells.now (cell_of base (slice_index family.now k)) }
+    ensures { IsTrue result → (k : ℕ) → k < length family.now
+        → IsFree cells.now (cell_of base (slice_index family.now k)) }
 {
     for key in family {
         let cell = base + (*key % PARTS) as usize;
@@ -55,7 +56,8 @@ fn fits_at(cells: &[u32], family: &[u64], base: usize) -> bool
 /// The first base from one on at which a family fits.
 fn first_fit(cells: &[u32], family: &[u64], lowest: usize) -> usize
     ensures near { result ≤ length cells.now }
-    ensures free { (k : ℕ) → k < length family.now → IsFree cells.now (cell_of result (slice_index family.now k)) }
+    ensures free { (k : ℕ) → k < length family.now
+        → IsFree cells.now (cell_of result (slice_index family.now k)) }
 {
     for base in lowest..cells.len() {
         if fits_at(cells, family, base) {
@@ -69,7 +71,8 @@ fn first_fit(cells: &[u32], family: &[u64], lowest: usize) -> usize
 fn grow(cells: &mut Vec<u32>, count: usize) -> Result<(), AllocError>
     ensures long { OnOk result (count ≤ vec_len cells.new) }
     ensures more { OnOk result (vec_len cells.old ≤ vec_len cells.new) }
-    ensures kept { OnOk result ((c : ℕ) → c < vec_len cells.old → slice_index cells.new.items c ≡ slice_index cells.old.items c) }
+    ensures kept { OnOk result ((c : ℕ) → c < vec_len cells.old
+        → slice_index cells.new.items c ≡ slice_index cells.old.items c) }
     ensures free { OnOk result ((c : ℕ) → vec_len cells.old ≤ c → IsFree cells.new.items c) }
 {
     for _ in cells.len()..count {
@@ -83,10 +86,13 @@ fn fill(cells: &mut [u32], keys: &[u64], from: usize, upto: usize, base: usize)
     requires family { IsFamily keys.now from upto }
     requires rising { IsStrictlyIncreasing keys.now }
     requires few { length keys.now < 2 ^ 32 }
-    requires room { (k : ℕ) → from ≤ k → k < upto → cell_of base (slice_index keys.now k) < length cells.old }
+    requires room { (k : ℕ) → from ≤ k → k < upto
+        → cell_of base (slice_index keys.now k) < length cells.old }
     requires near { base ≤ length cells.old }
-    ensures placed { (k : ℕ) → from ≤ k → k < upto → slice_index cells.new (cell_of base (slice_index keys.now k)) ≡ k }
-    ensures kept { (c : ℕ) → ((k : ℕ) → from ≤ k → k < upto → c ≢ cell_of base (slice_index keys.now k))
+    ensures placed { (k : ℕ) → from ≤ k → k < upto
+        → slice_index cells.new (cell_of base (slice_index keys.now k)) ≡ k }
+    ensures kept { (c : ℕ)
+        → ((k : ℕ) → from ≤ k → k < upto → c ≢ cell_of base (slice_index keys.now k))
         → slice_index cells.new c ≡ slice_index cells.old c }
 {
     for k in from..upto {

@@ -55,12 +55,13 @@ fn mark(
     }
 }
 
-/// The keys of the sets, in order.
-fn gather(alloc: Global, sets: &[u64]) -> Result<Vec<u64>, AllocError>
+/// The keys of the sets, in order. There are at most so many. Room for all is taken at once: a list
+/// that grows would be copied, and stand twice meanwhile.
+fn gather(alloc: Global, sets: &[u64], most: usize) -> Result<Vec<u64>, AllocError>
     requires few { length sets.now < 2 ^ 32 }
     ensures { IfOk result (λ v. AreOfSets sets.now (length sets.now) v.items) }
 {
-    let mut keys = Vec::new(alloc);
+    let mut keys = Vec::with_capacity(alloc, most)?;
     'numbers: for number in 0..sets.len() {
         let mut left = sets[number];
         'parts: while left != 0 {
@@ -95,6 +96,6 @@ pub fn keys_of(
 {
     let mut sets = vec![in alloc; 0u64; count]?;
     mark(signs, starts, len, at, part, numbers, &mut sets);
-    let keys = gather(alloc, &sets)?;
+    let keys = gather(alloc, &sets, signs.len())?;
     Ok(keys)
 }

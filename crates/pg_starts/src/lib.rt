@@ -2,6 +2,7 @@
 #![tactic(auto)]
 
 mod cells;
+mod codes;
 mod keys;
 mod start_counts;
 mod start_numbers;

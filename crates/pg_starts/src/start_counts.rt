@@ -6,7 +6,7 @@ ghost use Rattle.pg_types.specs.declared.limits.TheConstants.{LENGTH_MAX};
 use crate::start_numbers::StartNumbers;
 use crate::tallies::Tallies;
 use pg_dots::OpenDots;
-use pg_types::Sign;
+use pg_types::{Cursor, Sign};
 use std::alloc::{AllocError, Global};
 
 /// The windows that are counted in a pass, each with its sums of good and bad weights.
@@ -23,13 +23,16 @@ pub struct StartCounts {
 
 impl StartCounts {
     ghost use Rattle.std.specs.Prelude.{◌≡◌, ◌≤◌, ◌<◌, ◌+◌, ℕ, List, [], true, false, length, unwrap_or, slice_index, slice_index_or, None, OnOk, IfOk};
+    ghost use Rattle.std.specs.List.{list_all};
     ghost use Rattle.pg_types.specs.Inside.Limits.{positions_limit};
+    ghost use Rattle.pg_types.specs.Inside.Signs.{is_sign};
     ghost use Rattle.pg_types.specs.Inside.counting.Counts.{AreSmall, counted_sums, sums_of, with_count, with_weight};
     ghost use Rattle.pg_types.specs.Inside.counting.NumberedWindows.{HasNumber};
     ghost use Rattle.pg_types.specs.declared.limits.TheConstants.{LENGTH_MAX};
     ghost use Rattle.pg_dots.specs.Inside.Dots.{is_closed, position_count};
     ghost use Rattle.pg_starts.specs.Inside.Starts.{window_from};
-    ghost use Rattle.pg_starts.specs.Inside.Known.{AreKnown, is_numbered};
+    ghost use Rattle.pg_starts.specs.Inside.Known.{AreKnown, is_numbered, number_count};
+    ghost use Rattle.pg_starts.specs.Inside.Tallies.{tallied};
     ghost use Rattle.pg_starts.specs.Inside.StartCountings.{AreCounting, counts_in, windows_in};
 
     /// No window has a number.
@@ -45,7 +48,8 @@ impl StartCounts {
     }
 
     /// Numbers the windows of `len` signs whose start is before an open dot. Nothing can be counted
-    /// before a pass begins.
+    /// before a pass begins. The sums of the last pass are given up first, since numbering takes
+    /// memory of its own.
     pub fn number_open(
         &mut self,
         alloc: Global,
@@ -63,6 +67,7 @@ impl StartCounts {
             → is_closed dots.now d (i + d) ≡ false
             → is_numbered signs.now self.new.numbers i ≡ true)) }
     {
+        self.tallies = Tallies::new(alloc);
         self.numbers.number_open(alloc, signs, dots, len)
     }
 
@@ -76,6 +81,7 @@ impl StartCounts {
             × ((i : ℕ) → i + len ≤ length signs.now
             → is_numbered signs.now self.new.numbers i ≡ true)) }
     {
+        self.tallies = Tallies::new(alloc);
         self.numbers.number_all(alloc, signs, len)
     }
 
@@ -91,8 +97,7 @@ impl StartCounts {
         self.tallies.begin(self.numbers.count())
     }
 
-    /// Adds `weight` to the good or the bad sum of the window at a start. Only the contract reads
-    /// `signs`.
+    /// Adds `weight` to the good or the bad sum of the window at a start.
     #[inline(always)]
     pub fn add(&mut self, signs: &[Sign], start: usize, good: bool, weight: u64)
         requires counting { AreCounting signs.now self.old }
@@ -104,18 +109,18 @@ impl StartCounts {
         ensures counts { counts_in signs.now self.new ≡ with_count (counts_in signs.now self.old)
             (window_from signs.now start self.old.numbers.len) good weight }
     {
-        let number = self.numbers.number(start);
+        let number = self.numbers.number(signs, start);
         self.tallies.add(number, good, weight);
     }
 
     /// How many numbers there are.
     pub fn count(&self) -> usize
-        ensures { result ≡ length self.now.numbers.firsts.items }
+        ensures { result ≡ number_count self.now.numbers }
     {
         self.numbers.count()
     }
 
-    /// The number of the window at a start. Only the contract reads `signs`.
+    /// The number of the window at a start.
     #[inline(always)]
     pub fn number(&self, signs: &[Sign], start: usize) -> u32
         requires counting { AreCounting signs.now self.now }
@@ -123,27 +128,29 @@ impl StartCounts {
         ensures { HasNumber (windows_in signs.now self.now)
             (window_from signs.now start self.now.numbers.len) result }
     {
-        self.numbers.number(start)
+        self.numbers.number(signs, start)
     }
 
     /// The sums of the window with the number; none where it was not counted. Only the contract
     /// reads `signs`.
     pub fn sums(&self, signs: &[Sign], number: u32) -> Option<(u64, u64)>
         requires counting { AreCounting signs.now self.now }
-        requires number { number < length self.now.numbers.firsts.items }
+        requires number { number < number_count self.now.numbers }
         ensures value { (u : List ℕ) → HasNumber (windows_in signs.now self.now) u number
             → result ≡ counted_sums (counts_in signs.now self.now) u }
-        ensures tally { result ≡ slice_index_or self.now.tallies.sums.items number None }
+        ensures tally { result ≡ slice_index_or (tallied self.now.tallies) number None }
     {
         self.tallies.sums(number)
     }
 
-    /// The window with the number, lent from the signs.
-    pub fn window<'a>(&self, signs: &'a [Sign], number: u32) -> &'a [Sign]
+    /// Puts the window with the number into a cursor.
+    pub fn read(&self, signs: &[Sign], number: u32, window: &mut Cursor)
         requires counting { AreCounting signs.now self.now }
-        requires number { number < length self.now.numbers.firsts.items }
-        ensures { HasNumber (windows_in signs.now self.now) result.now number }
+        requires number { number < number_count self.now.numbers }
+        requires signs { (u : List ℕ) → HasNumber (windows_in signs.now self.now) u number
+            → list_all is_sign u ≡ true }
+        ensures { HasNumber (windows_in signs.now self.now) window.new number }
     {
-        self.numbers.window(signs, number)
+        self.numbers.read(signs, number, window);
     }
 }

@@ -1,10 +1,13 @@
 //! Numbers of the windows of a length by their starts.
-ghost use Rattle.std.specs.Prelude.{◌≡◌, ◌≢◌, ◌≤◌, ℕ, replicate, slice_index, IfOk};
+ghost use Rattle.std.specs.Prelude.{◌≡◌, ◌≢◌, ◌≤◌, ◌<◌, ◌+◌, ◌^◌, ℕ, length, slice_index, IfOk};
+ghost use Rattle.pg_types.specs.Inside.Limits.{positions_limit};
 ghost use Rattle.pg_types.specs.declared.limits.TheConstants.{LENGTH_MAX};
+ghost use Rattle.pg_starts.specs.Inside.Codes.{code_at, code_count};
 
+use crate::codes::{code_of, coded_length, count_codes, decode, write_codes};
 use crate::steps::number_to;
 use pg_dots::{OpenDots, StartSet};
-use pg_types::Sign;
+use pg_types::{Cursor, Sign};
 use std::alloc::{AllocError, Global};
 use std::mem;
 
@@ -12,9 +15,13 @@ use std::mem;
 ///
 /// Numbers rise in the order of signs, and are equal exactly where windows are equal. So one number
 /// for each start serves all dots of a length.
+///
+/// Windows of a few signs are known by their codes, and no number of theirs is kept. Longer ones
+/// get numbers in steps, from those that are shorter by a sign. A large alphabet has more codes
+/// than a short list has signs. There each length is made in such steps.
 #[derive(Drop)]
 pub struct StartNumbers {
-    /// The number of the window at each start.
+    /// The number of the window at each start, where it isn't its code.
     numbers: Vec<u32>,
     /// For each number, a start that has it.
     firsts: Vec<u32>,
@@ -24,19 +31,24 @@ pub struct StartNumbers {
     next: StartSet,
     /// The greatest sign.
     greatest: Sign,
+    /// The greatest length whose windows are known by their codes.
+    coded: usize,
     /// How many signs a window has; 0 where none has a number.
     len: usize,
     ghost short: { len ≤ LENGTH_MAX },
+    ghost few: { coded ≤ 3 },
 }
 
 impl StartNumbers {
-    ghost use Rattle.std.specs.Prelude.{◌≡◌, ◌≢◌, ◌≤◌, ◌<◌, ◌+◌, ◌^◌, ℕ, List, true, false, length, slice_index, OnOk, IfOk};
+    ghost use Rattle.std.specs.Prelude.{◌≡◌, ◌≢◌, ◌≤◌, ◌<◌, ◌+◌, ℕ, List, true, false, length, slice_index, OnOk, IfOk};
+    ghost use Rattle.std.specs.List.{list_all};
     ghost use Rattle.pg_types.specs.Inside.Limits.{positions_limit};
+    ghost use Rattle.pg_types.specs.Inside.Signs.{is_sign};
     ghost use Rattle.pg_types.specs.Inside.counting.NumberedWindows.{HasNumber};
     ghost use Rattle.pg_types.specs.declared.limits.TheConstants.{LENGTH_MAX};
     ghost use Rattle.pg_dots.specs.Inside.Dots.{is_closed, position_count};
     ghost use Rattle.pg_dots.specs.Inside.Starts.{is_left_out, starts_room};
-    ghost use Rattle.pg_starts.specs.Inside.Known.{AreKnown, is_numbered, windows_of};
+    ghost use Rattle.pg_starts.specs.Inside.Known.{AreKnown, is_numbered, number_at, number_count, windows_of};
 
     /// No window of these signs has a number.
     pub fn new(alloc: Global, signs: &[Sign]) -> Result<StartNumbers, AllocError>
@@ -45,73 +57,99 @@ impl StartNumbers {
     {
         let starts = StartSet::all(alloc, signs.len())?;
         let next = StartSet::all(alloc, signs.len())?;
+        let greatest = greatest_of(signs);
         Ok(StartNumbers {
             numbers: Vec::new(alloc),
             firsts: Vec::new(alloc),
             starts,
             next,
-            greatest: greatest_of(signs),
+            greatest,
+            coded: coded_length(greatest, signs.len()),
             len: 0,
         })
     }
 
     /// How many numbers there are.
     pub fn count(&self) -> usize
-        ensures { result ≡ length self.now.firsts.items }
+        ensures { result ≡ number_count self.now }
     {
+        if self.len <= self.coded {
+            return count_codes(self.greatest, self.len);
+        }
         self.firsts.len()
     }
 
     /// The number of the window at a start.
     #[inline(always)]
-    pub fn number(&self, start: usize) -> u32
-        requires { start < length self.now.numbers.items }
-        ensures { result ≡ slice_index self.now.numbers.items start }
+    pub fn number(&self, signs: &[Sign], start: usize) -> u32
+        requires known { AreKnown signs.now self.now }
+        requires len { 1 ≤ self.now.len }
+        requires start { is_numbered signs.now self.now start ≡ true }
+        ensures { result ≡ number_at signs.now self.now start }
     {
+        if self.len <= self.coded {
+            return code_of(signs, self.greatest, start, self.len);
+        }
         self.numbers[start]
     }
 
-    /// The window with the number, lent from the signs.
-    pub fn window<'a>(&self, signs: &'a [Sign], number: u32) -> &'a [Sign]
+    /// Puts the window with the number into a cursor.
+    pub fn read(&self, signs: &[Sign], number: u32, window: &mut Cursor)
         requires known { AreKnown signs.now self.now }
         requires len { 1 ≤ self.now.len }
-        requires number { number < length self.now.firsts.items }
-        ensures { HasNumber (windows_of signs.now self.now) result.now number }
+        requires number { number < number_count self.now }
+        requires signs { (u : List ℕ) → HasNumber (windows_of signs.now self.now) u number
+            → list_all is_sign u ≡ true }
+        ensures { HasNumber (windows_of signs.now self.now) window.new number }
     {
+        if self.len <= self.coded {
+            decode(self.greatest, self.len, number, window);
+            return;
+        }
         let start = self.firsts[number as usize] as usize;
-        &signs[start..start + self.len]
+        window.set(&signs[start..start + self.len]);
     }
 
     /// The length from which the numbers for the next starts can go on: that of the numbers there
-    /// are, where the next starts are among those that have one; else 0.
+    /// are, where the next starts are among those that have one; else that of the codes.
     fn length_to_go_on(&self, len: usize) -> usize
-        requires { 1 ≤ len }
+        requires { self.now.coded < len }
         ensures below { result < len }
-        ensures some { result ≢ 0 → (result ≡ self.now.len) × (result + 1 ≡ len) }
-        ensures part { result ≢ 0 → (i : ℕ) → i < starts_room self.now.next
+        ensures coded { self.now.coded ≤ result }
+        ensures some { result ≢ self.now.coded → (result ≡ self.now.len) × (result + 1 ≡ len) }
+        ensures part { result ≢ self.now.coded → (i : ℕ) → i < starts_room self.now.next
             → is_left_out self.now.next i ≡ false → is_left_out self.now.starts i ≡ false }
     {
-        if self.len + 1 == len && self.next.is_part_of(&self.starts) {
+        if self.coded < self.len && self.len + 1 == len && self.next.is_part_of(&self.starts) {
             self.len
         } else {
-            0
+            self.coded
         }
     }
 
     /// Numbers the windows of `len` signs at the next starts.
     fn number_next(&mut self, alloc: Global, signs: &[Sign], len: usize) -> Result<(), AllocError>
         requires len { (1 ≤ len) × (len ≤ LENGTH_MAX) }
-        requires few { length signs.now < positions_limit }
+        requires coded { self.old.coded < len }
         requires known { AreKnown signs.now self.old }
         ensures known { AreKnown signs.now self.new }
+        ensures coded { self.new.coded ≡ self.old.coded }
         ensures done { OnOk result
             ((self.new.len ≡ len) × (self.new.starts ≡ self.old.next)) }
     {
         let from = self.length_to_go_on(len);
         mem::swap(&mut self.starts, &mut self.next);
         self.len = 0;
-        let count = begin(&mut self.numbers, self.firsts.len(), signs.len(), from)?;
         let greatest = self.greatest;
+        let count = begin(
+            &mut self.numbers,
+            self.firsts.len(),
+            signs,
+            greatest,
+            from,
+            self.coded,
+        )?;
+        self.firsts = Vec::new(alloc);
         let numbers = &mut self.numbers;
         let firsts = number_to(
             alloc,
@@ -126,6 +164,16 @@ impl StartNumbers {
         self.firsts = firsts;
         self.len = len;
         Ok(())
+    }
+
+    /// Takes the codes of the windows of `len` signs for their numbers.
+    fn take_codes(&mut self, signs: &[Sign], len: usize)
+        requires len { len ≤ self.old.coded }
+        requires known { AreKnown signs.now self.old }
+        ensures known { AreKnown signs.now self.new }
+        ensures done { (self.new.len ≡ len) × (self.new.coded ≡ self.old.coded) }
+    {
+        self.len = len;
     }
 
     /// Numbers the windows of `len` signs whose start is before an open dot.
@@ -146,8 +194,13 @@ impl StartNumbers {
             → is_closed dots.now d (i + d) ≡ false
             → is_numbered signs.now self.new i ≡ true)) }
     {
+        let size = usize::from(len);
+        if size <= self.coded {
+            self.take_codes(signs, size);
+            return Ok(());
+        }
         dots.set_starts(len, &mut self.next);
-        self.number_next(alloc, signs, usize::from(len))
+        self.number_next(alloc, signs, size)
     }
 
     /// Numbers all windows of `len` signs.
@@ -160,29 +213,47 @@ impl StartNumbers {
             × ((i : ℕ) → i + len ≤ length signs.now
             → is_numbered signs.now self.new i ≡ true)) }
     {
+        let size = usize::from(len);
+        if size <= self.coded {
+            self.take_codes(signs, size);
+            return Ok(());
+        }
         let all = StartSet::all(alloc, signs.len())?;
         self.next = all;
-        self.number_next(alloc, signs, usize::from(len))
+        self.number_next(alloc, signs, size)
     }
 }
 
-/// Begins with windows of no sign, which are all equal, where `from` is 0. Gives how many numbers
-/// there are.
+/// Begins with the codes where `from` is the length of the codes. Gives how many numbers there are.
 fn begin(
     numbers: &mut Vec<u32>,
     count: usize,
-    size: usize,
+    signs: &[Sign],
+    greatest: Sign,
     from: usize,
+    coded: usize,
 ) -> Result<usize, AllocError>
-    ensures new { from ≡ 0 → IfOk result (λ n. (n ≡ 1) × (numbers.new.items ≡ replicate size 0)) }
-    ensures old { from ≢ 0 → IfOk result (λ n. (n ≡ count) × (numbers.new.items ≡ numbers.old.items)) }
+    requires coded { coded ≤ 3 }
+    requires small { length signs.now < positions_limit }
+    requires greatest { (k : ℕ) → slice_index signs.now k ≤ greatest }
+    requires few { 1 ≤ coded → code_count (greatest + 1) coded ≤ length signs.now }
+    ensures size { from ≡ coded → IfOk result (λ n. length numbers.new.items ≡ length signs.now) }
+    ensures codes { from ≡ coded → IfOk result (λ n. (n ≡ code_count (greatest + 1) coded)
+        × ((i : ℕ) → i + coded ≤ length signs.now
+        → slice_index numbers.new.items i ≡ code_at signs.now (greatest + 1) i coded)) }
+    ensures old { from ≢ coded → IfOk result (λ n. (n ≡ count)
+        × (numbers.new.items ≡ numbers.old.items)) }
 {
-    if from != 0 {
+    if from != coded {
         return Ok(count);
     }
     numbers.clear();
-    numbers.resize(size, 0)?;
-    Ok(1)
+    numbers.resize(signs.len(), 0)?;
+    if coded == 0 {
+        return Ok(1);
+    }
+    write_codes(signs, greatest, coded, numbers);
+    Ok(count_codes(greatest, coded))
 }
 
 /// The greatest of some signs; 0 where there is none.

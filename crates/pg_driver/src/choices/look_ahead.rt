@@ -31,7 +31,7 @@ fn look_at(
     seen: &mut Vec<SeenCandidate>,
 ) -> Result<(), AllocError>
     requires counting { AreCounting signs.now counts.now }
-    requires cursors { FitCursors (windows_in signs.now counts.now) }
+    requires cursors { FitCursors (windows_in signs.now counts.now) numbers.now }
     requires there { AreThere (windows_in signs.now counts.now) numbers.now }
     requires fates { length fates.now ≡ length (windows_in signs.now counts.now) }
     ensures size { OnOk result (length seen.new.items ≡ length numbers.now) }
@@ -43,7 +43,7 @@ fn look_at(
     'numbers: for number in numbers {
         let fate = fates[*number as usize];
         let mut window = Cursor::start();
-        window.set(counts.window(signs, *number));
+        counts.read(signs, *number, &mut window);
         seen.push(SeenCandidate { fate, window })?;
     }
     Ok(())
@@ -61,7 +61,7 @@ pub fn look_ahead(
     seen: &mut Vec<SeenCandidate>,
 ) -> Result<usize, AllocError>
     requires counting { AreCounting signs.now counts.now }
-    requires cursors { FitCursors (windows_in signs.now counts.now) }
+    requires cursors { FitCursors (windows_in signs.now counts.now) order.now }
     requires there { AreThere (windows_in signs.now counts.now) order.now }
     requires fates { length fates.now ≡ length (windows_in signs.now counts.now) }
     requires within { k < length order.now }

@@ -1,5 +1,5 @@
 -- The counts of windows whose sums stand by number.
-use Rattle.std.specs.Prelude.{◌≡◌, ℕ, ◌+◌, List, [], ◌∷◌, slice_get, Option, None, Some}
+use Rattle.std.specs.Prelude.{◌≡◌, ℕ, ◌+◌, ◌/◌, ◌==◌, if◌then◌else◌, List, [], ◌∷◌, slice_get, Option, None, Some}
 use Rattle.std.specs.declared.cmp.Ordering.TheVariants.{Less}
 use Rattle.std.specs.Ordering.{nat_cmp}
 use Rattle.std.specs.Cmp.Lexicographic.{slice_cmp}
@@ -9,6 +9,10 @@ use Rattle.pg_types.specs.Inside.counting.NumberedWindows.{Windows}
 -- the sums by number: none where no window with the number was counted
 abbrev pub Tallied : Type 0
 Tallied = List (Option (ℕ × ℕ))
+
+-- the sums that two numbers stand for: none where the first is 0
+abbrev pub told_by : ℕ × ℕ → Option (ℕ × ℕ)
+told_by kept = if kept.0 == 0 then None else Some (kept.0 / 2, kept.1)
 
 -- windows stand in the order of signs, each once
 abbrev pub IsRising : Windows → Type 0

@@ -4,18 +4,17 @@ use Rattle.std.proofs.lemmas.List.{length-map, drop_all, drop_more}
 use Rattle.std.proofs.lemmas.List.Sums.{sum_by-cons}
 use Rattle.std.proofs.lemmas.Option.{slice_get_within}
 use Rattle.pg_types.specs.Inside.Signs.{SignsWithin}
-use Rattle.pg_types.specs.Inside.counting.Counts.{Counts}
+use Rattle.pg_types.specs.Inside.counting.Counts.{Counts, counted_sums}
 use Rattle.pg_starts.specs.Inside.StartCountings.{counts_in, windows_in}
 use Rattle.pg_select.specs.Inside.Choices.{choice}
 use Rattle.pg_select.specs.Inside.engine.Meanings.{Meaning}
 use Rattle.pg_select.specs.CountedPositions.{Candidate}
 use Rattle.pg_driver.specs.declared.choices.Choices.{Choices}
 use Rattle.pg_driver.specs.Inside.choices.Choosing.{HasChosen, with_candidates, candidate_of}
-use Rattle.pg_driver.specs.Inside.choices.LookAhead.{AreSeen}
 use Rattle.pg_driver.specs.Inside.level.PassWindows.{IsCandidate, fate_of_sums}
 use Rattle.pg_driver.specs.Inside.level.States.{state_of}
 use Rattle.pg_driver.proofs.ChoiceSteps.{bad_adds, bad_within, good_adds, good_within, keeps_on, numbers_append, state_none, state_step, state_with}
-use Rattle.pg_driver.proofs.NumberSteps.{Ahead, ahead, only_one, order_there, part_whole}
+use Rattle.pg_driver.proofs.NumberSteps.{Ahead, ahead, one_window, only_one, order_there, part_whole}
 use Rattle.pg_driver.proofs.SeenCandidates.{none_seen, seen_at}
 use Rattle.pg_driver.proofs.choices.choose_all.Goals as goal
 
@@ -62,7 +61,14 @@ choose_one-requires-clause-enter g c =
     let u : List ℕ = c.index.result.now.window in
     let seen = seen_at c.args.fates.now (windows_in c.args.signs.now c.args.counts.now) c.args.order.now c.in_ok-from.from c.look_ahead.new.seen.items c.in_ok-from.ensures.seen
     c.candidates.k c.index.result.now c.in_ok-from.ensures.from c.in_ok-from.ensures.within c.candidates-test.true c.index.ensures in
-    let can = c.requires.enter u (get_or c.args.order.now c.candidates.k 0) seen.window in
+    let k = c.candidates.k in
+    let n = get_or c.args.order.now k 0 in
+    let more : List ℕ = drop (k + 1) c.args.order.now in
+    let inv = c.candidates.invariant in
+    let a : Ahead (windows_in c.args.signs.now c.args.counts.now) (counts_in c.args.signs.now c.args.counts.now) n more inv.rest = ahead (windows_in c.args.signs.now c.args.counts.now) (counts_in c.args.signs.now c.args.counts.now) n more inv.rest
+    (sym (ap (map (slice_get (windows_in c.args.signs.now c.args.counts.now))) (drop_more c.args.order.now k 0 c.candidates-test.true)) ∙ inv.ahead) inv.part in
+    let same : u ≡ a.entry.0 = one_window (windows_in c.args.signs.now c.args.counts.now) n u a.entry.0 seen.window a.number in
+    let can = c.requires.enter u n a.entry.1 (record { number = seen.window; sums = ap (counted_sums (counts_in c.args.signs.now c.args.counts.now)) same ∙ a.sums }) in
     inr (
       can.0 ∙ sym (ap (λ (x : Meaning). x.pass.len) c.candidates.invariant.kept),
       subst (λ n. SignsWithin n u) (sym (ap (λ (x : Meaning). x.signs) c.candidates.invariant.kept)) can.1,

@@ -1,11 +1,8 @@
 use Rattle.std.proofs.Common.{◌≡◌, ℕ, ◌+◌, List, Option, Some, unwrap_or, refl, sym, ap, subst, ◌∙◌, arith}
-use Rattle.std.proofs.lemmas.List.{length-map}
 use Rattle.std.proofs.lemmas.Option.{slice_get_within}
-use Rattle.pg_types.specs.Inside.counting.NumberedWindows.{HasNumber}
 use Rattle.pg_select.specs.Inside.engine.Meanings.{Meaning, KeepsButFamilies, after_choose, after_give_up}
-use Rattle.pg_starts.specs.Inside.Starts.{window_from}
 use Rattle.pg_starts.specs.Inside.StartCountings.{windows_in}
-use Rattle.pg_driver.specs.Inside.level.PassWindows.{IsCandidate}
+use Rattle.pg_starts.proofs.Numbering.{windows_size}
 use Rattle.pg_driver.proofs.NumberSteps.{one_window}
 use Rattle.pg_driver.proofs.ChoiceSteps.{left_one, left_numbers, chosen_one, chosen_numbers, hopeless_one, hopeless_numbers}
 use Rattle.pg_driver.proofs.choices.choose_one.Goals as goal
@@ -17,7 +14,7 @@ read_is o r sums is some = is ∙ ap (λ (x : Option (ℕ × ℕ)). unwrap_or {T
 pub sums-requires-clause-number : goal.sums-requires-clause-number
 sums-requires-clause-number g c =
     let low = slice_get_within (windows_in c.args.signs.now c.args.counts.now) c.args.number c.args.seen.now.window c.requires.window in
-    omega (arith, low, length-map c.args.counts.now.numbers.firsts.items (λ i. window_from c.args.signs.now i c.args.counts.now.numbers.len))
+    omega (arith, low, windows_size c.args.signs.now c.args.counts.now.numbers)
 
 pub overflow_add-choices-in-Chosen-2 : goal.overflow_add-choices-in-Chosen-2
 overflow_add-choices-in-Chosen-2 g c =

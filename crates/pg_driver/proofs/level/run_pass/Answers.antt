@@ -1,21 +1,19 @@
-use Rattle.std.proofs.Common.{◌≡◌, ◌≤◌, ◌<◌, ◌+◌, ℕ, List, [], true, fold, length, map, refl, sym, ap, subst, ◌∙◌, arith}
-use Rattle.pg_types.specs.declared.limits.TheConstants.{LENGTH_MAX}
+use Rattle.std.proofs.Common.{◌≡◌, ℕ, List, [], fold, length, map, sym, ap, subst, ◌∙◌, arith}
 use Rattle.pg_types.specs.Inside.Signs.{SignsWithin}
 use Rattle.pg_types.specs.Inside.counting.Counts.{Counts}
-use Rattle.pg_types.specs.Inside.counting.NumberedWindows.{AreInOrder, HasNumber}
+use Rattle.pg_types.specs.Inside.counting.NumberedWindows.{AreInOrder}
 use Rattle.pg_dict.specs.Inside.SoundWords.{SignsAtMost}
 use Rattle.pg_dict.specs.Inside.Store.{all_signs}
 use Rattle.pg_select.specs.declared.choice.Choice.{Choice}
 use Rattle.pg_select.specs.Inside.engine.Meanings.{Meaning, with_position}
 use Rattle.pg_starts.specs.declared.start_counts.StartCounts.{StartCounts}
 use Rattle.pg_starts.specs.Inside.StartCountings.{AreCounting, counts_in, windows_in}
-use Rattle.pg_driver.specs.declared.pass_windows.TheConstants.{NO_NUMBER}
 use Rattle.pg_driver.specs.Accounts.{totals_by}
 use Rattle.pg_driver.specs.Inside.choices.Choosing.{HasChosen, candidate_of, no_choices, with_candidates}
 use Rattle.pg_driver.specs.Inside.choices.LookAhead.{FitCursors}
 use Rattle.pg_driver.specs.Inside.counting.Counting.{HasRoom}
 use Rattle.pg_driver.specs.Inside.counting.LevelCounting.{AreListed, AreNumbersIn, CanGoOn, GoesOnAfter, IsReady}
-use Rattle.pg_driver.specs.Inside.level.PassWindows.{AreFates}
+use Rattle.pg_driver.specs.Inside.level.PassWindows.{AreFates, IsCandidate}
 use Rattle.pg_driver.specs.Inside.level.States.{State}
 use Rattle.pg_driver.specs.Inside.records.RunAccounts.{known_of}
 use Rattle.pg_driver.specs.Traces.{Knowledge, source_of}
@@ -65,8 +63,8 @@ decide-requires-clause-room g c =
 -- what the choice reads of the windows
 record CanChoose (xs : List ℕ) (k : StartCounts) (m : Meaning) : Type 0 where
   counting : AreCounting xs k
-  cursors : FitCursors (windows_in xs k)
-  enter : (u : List ℕ) (n : ℕ) → HasNumber (windows_in xs k) u n → (length u ≡ m.pass.len) × SignsWithin m.signs u
+  cursors : (order : List ℕ) → AreInOrder (windows_in xs k) (counts_in xs k) order → FitCursors (windows_in xs k) order
+  enter : (u : List ℕ) (n : ℕ) (sums : ℕ × ℕ) → IsCandidate xs k n u sums → (length u ≡ m.pass.len) × SignsWithin m.signs u
   room : HasRoom (counts_in xs k) 0
 
 pub choose_all-requires : goal.choose_all-requires
@@ -83,22 +81,24 @@ choose_all-requires g c =
     let same : k.numbers.len ≡ m1.pass.len = len ∙ sym (ap (λ (x : Meaning). x.pass.len) c.begin_pass.ensures) in
     let of_words : CanChoose (all_signs words) k m1 = record {
       counting = counting;
-      cursors = windows_fit words k counting c.len-words.ensures.words (omega (arith, len, c.requires.ranges.len_high));
+      cursors = λ order is. windows_fit words k counting c.len-words.ensures.words order is c.in_ok-before.ensures.did.room.sorted;
       enter = windows_enter words k counting c.len-words.ensures.words m1.signs m1.pass.len most same;
       room = c.in_ok-before.ensures.did.room;
     } in
     let can : CanChoose xs d m1 =
     subst (λ (x : StartCounts). CanChoose xs x m1) (sym c.decide.ensures.counts) (subst (λ (ys : List ℕ). CanChoose ys k m1) (sym c.all_signs-signs.ensures) of_words) in
+    let order : AreInOrder (windows_in xs d) (counts_in xs d) c.deref-2.result.now =
+    subst (λ (order : List ℕ). AreInOrder (windows_in xs d) (counts_in xs d) order) (sym c.deref-2.ensures.value)
+    (subst (λ (x : StartCounts). AreInOrder (windows_in xs x) (counts_in xs x) c.decide.new.self.order.items) (sym c.decide.ensures.counts) c.in_ok-decide.ensures.order) in
     record {
       level = c.requires.level;
       counting = can.counting;
-      cursors = can.cursors;
+      cursors = can.cursors c.deref-2.result.now order;
       enter = can.enter;
       room = can.room;
       fates = subst (λ (fates : List Choice). AreFates c.args.params.now (counts_in xs d) (windows_in xs d) fates) (sym c.deref.ensures.value)
           (subst (λ (x : StartCounts). AreFates c.args.params.now (counts_in xs x) (windows_in xs x) c.decide.new.self.fates.items) (sym c.decide.ensures.counts) c.in_ok-decide.ensures.fates);
-      order = subst (λ (order : List ℕ). AreInOrder (windows_in xs d) (counts_in xs d) order) (sym c.deref-2.ensures.value)
-          (subst (λ (x : StartCounts). AreInOrder (windows_in xs x) (counts_in xs x) c.decide.new.self.order.items) (sym c.decide.ensures.counts) c.in_ok-decide.ensures.order);
+      order = order;
     }
 
 pub after_choices-requires-clause-ranges : goal.after_choices-requires-clause-ranges

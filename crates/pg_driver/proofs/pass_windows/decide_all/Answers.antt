@@ -1,15 +1,15 @@
-use Rattle.std.proofs.Common.{◌≡◌, ◌∷◌, ◌++◌, [], List, ℕ, ◌<◌, ◌≤◌, ◌+◌, Bool, true, false, Option, None, Some, is_some, inl, inr, length, drop, get_or, map, slice_get, refl, sym, ap, subst, ◌∙◌, arith, append_assoc}
-use Rattle.std.specs.Option.{IfSome}
+use Rattle.std.proofs.Common.{◌≡◌, ◌∷◌, ◌++◌, [], List, ℕ, ◌<◌, ◌≤◌, ◌+◌, true, false, Option, None, Some, is_some, inl, inr, length, drop, get_or, slice_get, sym, ap, subst, ◌∙◌, arith, append_assoc}
 use Rattle.std.proofs.lemmas.Bool.{cases_lt}
-use Rattle.std.proofs.lemmas.List.{append-nil, drop_all, drop_more, length-map, length_push}
+use Rattle.std.proofs.lemmas.List.{append-nil, drop_all, drop_more, length_push}
 use Rattle.std.proofs.lemmas.Option.{slice_get_within}
-use Rattle.pg_types.specs.Inside.counting.Counts.{Counts, counted_sums}
+use Rattle.pg_types.specs.Inside.counting.Counts.{counted_sums}
 use Rattle.pg_types.specs.Inside.counting.NumberedWindows.{HasNumber, Windows}
 use Rattle.pg_select.specs.declared.choice.Choice.{Choice}
+use Rattle.pg_starts.specs.Inside.Tallies.{tallied}
 use Rattle.pg_starts.specs.Inside.CountsByNumber.{Tallied, counted_from}
 use Rattle.pg_starts.specs.Inside.StartCountings.{counts_in, windows_in}
-use Rattle.pg_starts.specs.Inside.Starts.{window_from}
-use Rattle.pg_starts.proofs.Numbering.{get_mapped}
+use Rattle.pg_starts.specs.Inside.Known.{number_count}
+use Rattle.pg_starts.proofs.Numbering.{some_window, windows_size}
 use Rattle.pg_driver.specs.Inside.level.PassWindows.{fate_of_sums}
 use Rattle.pg_driver.proofs.NumberSteps.{get_left, get_seam}
 use Rattle.pg_driver.proofs.OpenSteps.{small_sums}
@@ -18,14 +18,14 @@ use Rattle.pg_driver.proofs.pass_windows.decide_all.Goals.{then-is_some+in_ok-pu
 
 pub numbers-init : goal.numbers-init
 numbers-init c = record {
-  order = ap (λ (ns : List ℕ). ns ++ counted_from 0 c.args.counts.now.tallies.sums.items) c.requires.no_order;
+  order = ap (λ (ns : List ℕ). ns ++ counted_from 0 (tallied c.args.counts.now.tallies)) c.requires.no_order;
   size = ap (λ (xs : List Choice). length xs) c.requires.no_fates;
   each = λ u n low has. absurd (omega arith);
 }
 
 pub returns-clause-order : goal.returns-clause-order
 returns-clause-order c =
-    let ts : Tallied = c.args.counts.now.tallies.sums.items in
+    let ts : Tallied = tallied c.args.counts.now.tallies in
     let past : length ts ≤ c.numbers.number = omega (arith, c.numbers-test.false, c.count-number-end.ensures, c.requires.counting.size) in
     sym (append-nil c.numbers.order.items)
     ∙ ap (λ (xs : Tallied). c.numbers.order.items ++ counted_from c.numbers.number xs) (sym (drop_all c.numbers.number ts past))
@@ -34,7 +34,7 @@ returns-clause-order c =
 pub returns-clause-fates : goal.returns-clause-fates
 returns-clause-fates c =
     let ws : Windows = windows_in c.args.signs.now c.args.counts.now in
-    let size : length ws ≡ length c.args.counts.now.numbers.firsts.items = length-map c.args.counts.now.numbers.firsts.items (λ i. window_from c.args.signs.now i c.args.counts.now.numbers.len) in
+    let size = windows_size c.args.signs.now c.args.counts.now.numbers in
     record {
       size = omega (arith, size, c.numbers.invariant.size, c.numbers-test.false, c.count-number-end.ensures, c.numbers.auto.number-end);
       each = λ u n has. c.numbers.invariant.each u n (let low = slice_get_within ws n u has in omega (arith, low, size, c.numbers-test.false, c.count-number-end.ensures)) has;
@@ -69,16 +69,16 @@ fate_of-requires-clause-small c =
     let signs = c.args.signs.now in
     let k = c.args.counts.now in
     let n = c.numbers.number in
-    let low : n < length k.numbers.firsts.items = omega (arith, c.numbers-test.true, c.count-number-end.ensures) in
-    let u = window_from signs (get_or k.numbers.firsts.items n 0) k.numbers.len in
+    let low : n < number_count k.numbers = omega (arith, c.numbers-test.true, c.count-number-end.ensures) in
+    let u : List ℕ = get_or (windows_in signs k) n [] in
     small_sums (counts_in signs k) u 0 c.sums-sums.result c.requires.room
-    (c.sums-sums.ensures.value u (get_mapped (λ i. window_from signs i k.numbers.len) k.numbers.firsts.items n low))
+    (c.sums-sums.ensures.value u (some_window signs k.numbers n low))
 
 pub numbers-preserved : goal.numbers-preserved
 numbers-preserved c =
     let signs = c.args.signs.now in
     let k = c.args.counts.now in
-    let ts : Tallied = k.tallies.sums.items in
+    let ts : Tallied = tallied k.tallies in
     let n = c.numbers.number in
     let inv = c.numbers.invariant in
     let low : n < length ts = omega (arith, c.numbers-test.true, c.count-number-end.ensures, c.requires.counting.size) in

@@ -1,7 +1,6 @@
 -- The candidates that were looked at before their turn.
 use Rattle.std.specs.Prelude.{◌≡◌, ℕ, ◌+◌, ◌<◌, ◌≤◌, true, List, length, slice_get, Some}
 use Rattle.std.specs.List.{list_all}
-use Rattle.pg_types.specs.declared.limits.TheConstants.{LENGTH_MAX}
 use Rattle.pg_types.specs.Inside.Signs.{is_sign}
 use Rattle.pg_types.specs.Inside.counting.NumberedWindows.{Windows, HasNumber}
 use Rattle.pg_select.specs.declared.choice.Choice.{Choice}
@@ -17,10 +16,10 @@ pub record IsReadAhead (fates : List Choice) (ws : Windows) (n : ℕ) (c : SeenC
 abbrev pub AreThere : Windows → List ℕ → Type 0
 AreThere ws numbers = (k n : ℕ) → slice_get numbers k ≡ Some n → n < length ws
 
--- each window fits in a cursor: it is not too long, and has signs
-abbrev pub FitCursors : Windows → Type 0
-FitCursors ws = (u : List ℕ) (n : ℕ) → HasNumber ws u n
-    → (length u ≤ LENGTH_MAX) × (list_all is_sign u ≡ true)
+-- each window of these numbers fits in a cursor: it has signs
+abbrev pub FitCursors : Windows → List ℕ → Type 0
+FitCursors ws numbers = (k n : ℕ) (u : List ℕ) → slice_get numbers k ≡ Some n → HasNumber ws u n
+    → list_all is_sign u ≡ true
 
 -- the candidates are those of the order from an index on
 pub record AreSeen (fates : List Choice) (ws : Windows) (order : List ℕ) (from : ℕ)

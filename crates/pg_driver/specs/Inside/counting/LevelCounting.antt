@@ -6,15 +6,18 @@ use Rattle.pg_types.specs.declared.marks.Totals.{Totals}
 use Rattle.pg_types.specs.declared.parameters.LevelParams.{LevelParams}
 use Rattle.pg_types.specs.Inside.counting.Counts.{Counts}
 use Rattle.pg_types.specs.Inside.counting.NumberedWindows.{Windows}
+use Rattle.pg_dict.specs.Inside.Store.{all_signs}
 use Rattle.pg_dict.specs.Word.{Word}
 use Rattle.pg_select.specs.declared.pass.Pass.{Pass}
 use Rattle.pg_select.specs.CountedPositions.{counted_positions}
 use Rattle.pg_select.specs.Inside.laws.Steps.{FindsMore, PreventsMore}
 use Rattle.pg_select.specs.Inside.engine.Meanings.{Meaning, with_position}
 use Rattle.pg_starts.specs.declared.start_numbers.StartNumbers.{StartNumbers}
+use Rattle.pg_starts.specs.Inside.Known.{AreKnown}
 use Rattle.pg_select.specs.Statuses.{is_odd}
 use Rattle.pg_driver.specs.declared.choices.Choices.{Choices}
 use Rattle.pg_driver.specs.declared.counting.WayToCount.{WayToCount}
+use Rattle.pg_driver.specs.declared.pass_windows.PassWindows.{PassWindows}
 use Rattle.pg_driver.specs.declared.counting.WayToCount.TheVariants.{Open, EachWord}
 use Rattle.pg_driver.specs.declared.counting.open_positions.OpenLevel.{OpenLevel}
 use Rattle.pg_driver.specs.declared.counting.word_level.WordLevel.{WordLevel}
@@ -107,6 +110,12 @@ abbrev pub AreNumbersIn : List Word → ℕ → StartNumbers → WayToCount → 
 AreNumbersIn words len n (Open o) =
     AreNumbersFor words len (λ d s. not (is_closed o.dots d s)) n
 AreNumbersIn words len n (EachWord e) = AreNumbersFor words len (λ d s. true) n
+
+-- where it is noted that the windows of a length have numbers, they have
+pub record MayHaveNumbers (words : List Word) (len : ℕ) (w : PassWindows) (c : WayToCount)
+    : Type 0 where
+  pub known : AreKnown (all_signs words) w.counts.numbers
+  pub numbers : w.numbered ≡ true → AreNumbersIn words len w.counts.numbers c
 
 -- over open positions the dot of the pass is reached. Else each position that is listed has its
 -- window's number, where the pass counts it

@@ -1,5 +1,5 @@
 -- What a run changes in an engine, from pass to pass.
-use Rattle.std.specs.Prelude.{◌≡◌, ℕ, ◌+◌, ◌≤◌, List, [], fold, Option}
+use Rattle.std.specs.Prelude.{◌≡◌, ℕ, ◌+◌, ◌≤◌, List, fold, Option}
 use Rattle.std.specs.Option.{option_map}
 use Rattle.pg_types.specs.declared.limits.TheConstants.{LENGTH_MAX, LEVEL_MAX}
 use Rattle.pg_types.specs.declared.parameters.LevelParams.{LevelParams}

@@ -1,4 +1,5 @@
-use Rattle.std.proofs.Common.{arith, rules, ◌<◌, ◌+◌, ◌*◌, ◌^◌, ℕ, ◌++◌, ◌∷◌, [], Fits, w64, get_or, ap, ◌∙◌, refl}
+use Rattle.std.proofs.Common.{arith, rules, ◌<◌, ◌+◌, ◌*◌, ◌^◌, ℕ, ◌++◌, ◌∷◌, [], Fits, w64, get_or, ap, ◌∙◌, refl, subst}
+use Rattle.pg_starts.specs.Inside.Sets.{AreOfSets}
 use Rattle.pg_starts.proofs.SetLaws.{emptying_begins, emptying_more, emptying_ends, clear_smaller}
 use Rattle.pg_starts.proofs.keys.gather.Goals as goal
 
@@ -17,3 +18,6 @@ parts-preserved c = emptying_more c.args.sets.now c.numbers.number c.parts.left 
 
 pub numbers-preserved : goal.numbers-preserved
 numbers-preserved c = emptying_ends c.args.sets.now c.numbers.number c.parts.left c.parts.keys.items (search rules) c.parts.invariant
+
+pub returns : goal.returns
+returns c = subst (λ (n : ℕ). AreOfSets c.args.sets.now n c.numbers.keys.items) (omega (arith, c.numbers.auto.number-end, c.numbers-test.false)) c.numbers.invariant

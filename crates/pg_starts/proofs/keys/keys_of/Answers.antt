@@ -1,4 +1,4 @@
-use Rattle.std.proofs.Common.{rules, ◌≡◌, ◌<◌, ℕ, true, length, ap, ◌∙◌, subst, arith}
+use Rattle.std.proofs.Common.{rules, ◌≡◌, length, ap, ◌∙◌, subst, arith}
 use Rattle.pg_starts.specs.Inside.Starts.{has_window, part_behind}
 use Rattle.pg_starts.specs.Inside.Orders.{AreKeys}
 use Rattle.pg_starts.specs.Inside.Sets.{AreOfSets}

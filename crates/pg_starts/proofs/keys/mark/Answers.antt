@@ -1,5 +1,4 @@
-use Rattle.std.proofs.Common.{◌≡◌, ℕ, ◌+◌, ◌<◌, ◌≤◌, ◌*◌, Bool, true, false, List, length, get_or, sym, ap, ◌∙◌, arith, rules}
-use Rattle.pg_dots.specs.Inside.Starts.{is_left_out}
+use Rattle.std.proofs.Common.{◌≡◌, ℕ, ◌+◌, ◌<◌, ◌≤◌, ◌*◌, Bool, true, length, get_or, arith, rules}
 use Rattle.pg_starts.specs.Inside.Starts.{has_window, part_behind}
 use Rattle.pg_starts.proofs.SetLaws.{sets_none, sets_skip, sets_marked, sets_whole}
 use Rattle.pg_starts.proofs.Tests.{has_it, left_out, window_ends}

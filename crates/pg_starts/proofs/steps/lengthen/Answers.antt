@@ -1,7 +1,7 @@
-use Rattle.std.proofs.Common.{◌≡◌, ◌≤◌, ◌<◌, ◌+◌, ℕ, Bool, true, length, arith}
+use Rattle.std.proofs.Common.{◌+◌, ℕ, Bool, arith}
 use Rattle.std.proofs.lemmas.Result.{IfOk-weaker}
 use Rattle.pg_starts.specs.Inside.Starts.{has_window, part_behind, window_order}
-use Rattle.pg_starts.specs.Inside.Orders.{AreNumbers, AreOrdered, then_part}
+use Rattle.pg_starts.specs.Inside.Orders.{then_part}
 use Rattle.pg_starts.proofs.Orders.{numbers_in, sign_order}
 use Rattle.pg_starts.proofs.Tests.{window_ends}
 use Rattle.pg_starts.proofs.steps.lengthen.Goals as goal

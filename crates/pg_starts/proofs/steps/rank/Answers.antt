@@ -1,4 +1,4 @@
-use Rattle.std.proofs.Common.{◌≡◌, ℕ, ◌+◌, ◌<◌, ◌≤◌, ◌*◌, Bool, true, false, List, length, get_or, refl, sym, ap, ◌∙◌, arith, rules}
+use Rattle.std.proofs.Common.{◌≡◌, ℕ, ◌+◌, ◌<◌, ◌≤◌, ◌*◌, Bool, true, length, get_or, refl, arith}
 use Rattle.pg_starts.specs.Inside.Starts.{has_window, part_behind}
 use Rattle.pg_starts.proofs.Families.{read_place}
 use Rattle.pg_starts.proofs.Ranks.{ranked_none, ranked_skip, ranked_step, ranks_at_end}

@@ -1,4 +1,4 @@
-use Rattle.std.proofs.Common.{arith, rules, ◌≡◌, ◌+◌, ◌<◌, ℕ, Bool, length, get_or, sym, subst}
+use Rattle.std.proofs.Common.{rules, ◌≡◌, ◌<◌, ℕ, Bool, length, get_or, sym, subst}
 use Rattle.pg_starts.specs.Inside.Starts.{has_window, part_behind}
 use Rattle.pg_starts.specs.Inside.Orders.{AreNumbers, AreRanks, then_part}
 use Rattle.pg_starts.specs.Inside.Cells.{number_of}

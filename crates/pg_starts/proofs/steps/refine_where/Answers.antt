@@ -1,4 +1,4 @@
-use Rattle.std.proofs.Common.{◌≡◌, ℕ, length, subst, rules}
+use Rattle.std.proofs.Common.{◌≡◌, length, subst, rules}
 use Rattle.pg_starts.specs.Inside.Orders.{AreOrdered, then_part}
 use Rattle.pg_starts.specs.Inside.Starts.{has_window, part_behind}
 use Rattle.pg_starts.proofs.Orders.{ordered_same}

@@ -1,9 +1,8 @@
-use Rattle.std.proofs.Common.{◌≡◌, ◌<◌, ℕ, List, [], ◌∷◌, ◌++◌, length, slice_get, get_or, None, Some, sym, ap, subst, ◌∙◌, arith}
-use Rattle.std.proofs.lemmas.List.{length-append, length-map}
+use Rattle.std.proofs.Common.{◌≡◌, ◌<◌, List, [], ◌∷◌, ◌++◌, length, slice_get, get_or, None, Some, sym, ap, subst, ◌∙◌, arith}
+use Rattle.std.proofs.lemmas.List.{length-append}
 use Rattle.std.proofs.lemmas.Option.{slice_get-get_or}
-use Rattle.pg_types.specs.Inside.counting.NumberedWindows.{HasNumber}
-use Rattle.pg_starts.specs.Inside.Starts.{window_from}
 use Rattle.pg_starts.specs.Inside.StartCountings.{windows_in}
+use Rattle.pg_starts.proofs.Numbering.{windows_size}
 use Rattle.pg_driver.specs.declared.choices.look_ahead.SeenCandidate.{SeenCandidate}
 use Rattle.pg_driver.proofs.SeenCandidates.{EachSeen, seen_more}
 use Rattle.pg_driver.proofs.choices.look_ahead.look_at.Goals as goal
@@ -24,14 +23,14 @@ numbers-preserved c =
     let n = get_or c.args.numbers.now c.numbers.number-index 0 in
     let at : slice_get c.args.numbers.now c.numbers.number-index ≡ Some n = slice_get-get_or c.args.numbers.now c.numbers.number-index 0 c.numbers-test.true in
     let lt : n < length ws = c.requires.there c.numbers.number-index n at in
-    let e : SeenCandidate = record { fate = get_or c.args.fates.now n _; window = c.set.new.self } in
+    let e : SeenCandidate = record { fate = get_or c.args.fates.now n _; window = c.read.new.window } in
     let items : c.push.new.self.items ≡ c.numbers.seen.items ++ e ∷ [] = c.in_ok-push.ensures.items in
     record {
       size = (let size = inv.size in omega (arith, ap (λ (xs : List SeenCandidate). length xs) items, length-append c.numbers.seen.items (e ∷ [])));
       each =
           subst (λ (xs : List SeenCandidate). EachSeen c.args.fates.now ws c.args.numbers.now xs) (sym items)
           (seen_more c.args.fates.now ws c.args.numbers.now c.numbers.seen.items e n (ap (slice_get c.args.numbers.now) inv.size ∙ at)
-          (record { fate = slice_get-get_or c.args.fates.now n _ (let size = c.requires.fates in omega arith); window = subst (λ (u : List ℕ). HasNumber ws u n) (sym c.set.ensures) c.window.ensures }) inv.each);
+          (record { fate = slice_get-get_or c.args.fates.now n _ (let size = c.requires.fates in omega arith); window = c.read.ensures }) inv.each);
     }
 
 pub returns-clause-size : goal.returns-clause-size
@@ -46,17 +45,16 @@ bounds-fates-number c =
     let lt = c.requires.there k (get_or c.args.numbers.now k 0) (slice_get-get_or c.args.numbers.now k 0 c.numbers-test.true) in
     omega (arith, lt, c.requires.fates)
 
-pub window-requires-clause-counting : goal.window-requires-clause-counting
-window-requires-clause-counting c = c.requires.counting
+pub read-requires-clause-counting : goal.read-requires-clause-counting
+read-requires-clause-counting c = c.requires.counting
 
-pub window-requires-clause-number : goal.window-requires-clause-number
-window-requires-clause-number c =
+pub read-requires-clause-number : goal.read-requires-clause-number
+read-requires-clause-number c =
     let k = c.numbers.number-index in
     let lt = c.requires.there k (get_or c.args.numbers.now k 0) (slice_get-get_or c.args.numbers.now k 0 c.numbers-test.true) in
-    omega (arith, lt, length-map c.args.counts.now.numbers.firsts.items (λ i. window_from c.args.signs.now i c.args.counts.now.numbers.len))
+    omega (arith, lt, windows_size c.args.signs.now c.args.counts.now.numbers)
 
-pub set-requires-clause-len : goal.set-requires-clause-len
-set-requires-clause-len c = (c.requires.cursors c.window.result.now _ c.window.ensures).0
-
-pub set-requires-clause-signs : goal.set-requires-clause-signs
-set-requires-clause-signs c = (c.requires.cursors c.window.result.now _ c.window.ensures).1
+pub read-requires-clause-signs : goal.read-requires-clause-signs
+read-requires-clause-signs c = λ u has.
+    let k = c.numbers.number-index in
+    c.requires.cursors k (get_or c.args.numbers.now k 0) u (slice_get-get_or c.args.numbers.now k 0 c.numbers-test.true) has

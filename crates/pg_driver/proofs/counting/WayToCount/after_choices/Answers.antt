@@ -1,4 +1,4 @@
-use Rattle.std.proofs.Common.{◌≡◌, ◌<◌, ◌≤◌, ℕ, List, Bool, All, not, length, refl, sym, ap, subst, ◌∙◌}
+use Rattle.std.proofs.Common.{◌≡◌, ◌≤◌, ℕ, List, Bool, All, not, length, refl, sym, ap, subst, ◌∙◌}
 use Rattle.pg_dict.specs.Inside.Store.{all_signs}
 use Rattle.pg_dots.specs.Inside.Dots.{is_closed}
 use Rattle.pg_select.specs.declared.choice.Choice.{Choice}
@@ -14,7 +14,7 @@ use Rattle.pg_driver.specs.declared.pass_windows.WordPosition.{WordPosition}
 use Rattle.pg_driver.specs.Inside.counting.Counting.{AreNumbersFor}
 use Rattle.pg_driver.specs.Inside.counting.LevelCounting.{AreInWords, AreListed, AreNumbersIn, CanCarry, CanGoOn, CanMove, GoesOnAfter, IsAfterWords}
 use Rattle.pg_driver.specs.Inside.counting.OpenPositions.{IsInWord}
-use Rattle.pg_driver.specs.Inside.counting.OpenSigns.{ClosesBy, closed_at_sign, sign_count}
+use Rattle.pg_driver.specs.Inside.counting.OpenSigns.{ClosesBy, closed_at_sign}
 use Rattle.pg_driver.specs.Inside.counting.WordLevels.{chosen_weights}
 use Rattle.pg_driver.specs.Inside.level.PassWindows.{AreFates, HaveNumbers, is_counted_at}
 use Rattle.pg_driver.proofs.OpenCloses.{closes_signs}

@@ -1,4 +1,4 @@
-use Rattle.std.proofs.Common.{◌≡◌, ◌≤◌, ◌<◌, ℕ, List, Bool, true, not, fold, length, [], refl, subst, sym, ap, ◌∙◌, arith}
+use Rattle.std.proofs.Common.{◌≡◌, ◌≤◌, ℕ, List, true, not, fold, [], refl, subst, sym, ap, ◌∙◌, arith}
 use Rattle.std.specs.List.{flat_map}
 use Rattle.pg_dict.specs.Inside.Store.{all_signs}
 use Rattle.pg_dots.specs.Inside.Dots.{is_closed, position_count}
@@ -6,16 +6,12 @@ use Rattle.pg_types.specs.Inside.counting.Counts.{Counts}
 use Rattle.pg_select.specs.CountedPositions.{CountedPosition}
 use Rattle.pg_select.specs.Inside.engine.Meanings.{with_position}
 use Rattle.pg_starts.specs.Inside.Known.{AreKnown}
-use Rattle.pg_starts.specs.Inside.StartCountings.{AreCounting, counts_in, windows_in}
-use Rattle.pg_starts.specs.declared.start_numbers.StartNumbers.{StartNumbers}
-use Rattle.pg_driver.specs.declared.counting.WayToCount.{WayToCount}
-use Rattle.pg_driver.specs.declared.counting.WayToCount.TheVariants.{Open, EachWord}
+use Rattle.pg_starts.specs.Inside.StartCountings.{AreCounting, counts_in}
 use Rattle.pg_driver.specs.declared.counting.open_positions.OpenLevel.{OpenLevel}
-use Rattle.pg_driver.specs.Inside.counting.Counting.{AreNumbersFor, HasRoom}
-use Rattle.pg_driver.specs.Inside.counting.LevelCounting.{AreListed, AreNumbersIn, IsOpenAt, IsReady}
+use Rattle.pg_driver.specs.Inside.counting.Counting.{AreNumbersFor}
+use Rattle.pg_driver.specs.Inside.counting.LevelCounting.{AreNumbersIn, IsOpenAt, IsReady}
 use Rattle.pg_driver.specs.Inside.counting.OpenPositions.{counted_of}
 use Rattle.pg_driver.specs.Inside.counting.OpenSigns.{open_word_positions, sign_count}
-use Rattle.pg_driver.specs.Inside.counting.WordLevels.{IsWordsAt}
 use Rattle.pg_driver.specs.Inside.records.RunAccounts.{known_of}
 use Rattle.pg_driver.specs.Traces.{source_of}
 use Rattle.pg_driver.proofs.ReadySteps.{counts_all, has_room, is_small, ready_same}

@@ -1,12 +1,11 @@
-use Rattle.std.proofs.Common.{◌≡◌, ◌≤◌, ◌<◌, ◌+◌, ℕ, List, Bool, true, false, not, length, sym, ap, subst, ◌∙◌, arith}
+use Rattle.std.proofs.Common.{◌≡◌, ◌≤◌, ◌<◌, ◌+◌, ℕ, List, true, length, sym, ap, subst, arith}
 use Rattle.std.proofs.lemmas.Bool.{not-true}
 use Rattle.std.proofs.lemmas.Result.{on_ok_weaker}
 use Rattle.std.specs.Result.{OnOk}
 use Rattle.pg_dict.specs.Inside.Store.{all_signs}
-use Rattle.pg_dots.specs.Inside.Dots.{is_closed, position_count}
+use Rattle.pg_dots.specs.Inside.Dots.{is_closed}
 use Rattle.pg_starts.specs.Inside.Known.{AreKnown, is_numbered}
 use Rattle.pg_driver.specs.declared.counting.WayToCount.{WayToCount}
-use Rattle.pg_driver.specs.Inside.counting.Counting.{AreNumbersFor}
 use Rattle.pg_driver.specs.Inside.counting.LevelCounting.{AreNumbersIn, HasSize}
 use Rattle.pg_driver.proofs.OpenSigns.{signs_few}
 use Rattle.pg_driver.proofs.counting.WayToCount.number.Goals as goal

@@ -1,16 +1,15 @@
-use Rattle.std.proofs.Common.{◌≡◌, ℕ, ◌+◌, ◌-◌, ◌<◌, ◌≤◌, ◌∷◌, filter, fold, List, Bool, false, not, length, map, refl, sym, ap, subst, ◌∙◌, arith}
+use Rattle.std.proofs.Common.{◌≡◌, ℕ, ◌+◌, ◌-◌, ◌<◌, ◌∷◌, filter, fold, List, Bool, false, not, length, map, refl, sym, ap, subst, ◌∙◌, arith}
 use Rattle.std.specs.List.{flat_map, range_with_len}
 use Rattle.pg_dict.specs.Inside.Store.{all_signs}
 use Rattle.pg_dict.proofs.WordStore.Told.{word_in}
 use Rattle.pg_dots.specs.Inside.Dots.{is_closed}
 use Rattle.pg_types.specs.Inside.counting.Counts.{Counts}
 use Rattle.pg_select.specs.Inside.engine.Meanings.{with_position}
-use Rattle.pg_starts.specs.declared.start_numbers.StartNumbers.{StartNumbers}
 use Rattle.pg_starts.specs.Inside.StartCountings.{counts_in}
 use Rattle.pg_driver.specs.declared.pass_windows.WordPosition.{WordPosition}
 use Rattle.pg_driver.specs.Inside.counting.Counting.{AreNumbersFor, HasRoom, TookRoom}
 use Rattle.pg_driver.specs.Inside.counting.OpenPositions.{counted_of}
-use Rattle.pg_driver.specs.Inside.counting.OpenSigns.{open_at, open_signs, position_from, sign_count}
+use Rattle.pg_driver.specs.Inside.counting.OpenSigns.{open_signs, position_from, sign_count}
 use Rattle.pg_driver.proofs.FlatSigns.{counted_there}
 use Rattle.pg_driver.proofs.OpenSigns.{open_first, open_skip, place_of, sign_of}
 use Rattle.pg_driver.proofs.OpenSteps.{took_entry}

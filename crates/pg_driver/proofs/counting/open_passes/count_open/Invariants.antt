@@ -1,4 +1,4 @@
-use Rattle.std.proofs.Common.{◌≡◌, ℕ, ◌+◌, ◌-◌, ◌≤◌, ◌<◌, true, false, fold, length, map}
+use Rattle.std.proofs.Common.{◌≡◌, ◌+◌, ◌-◌, ◌≤◌, ◌<◌, false, fold, length, map}
 use Rattle.std.specs.List.{flat_map}
 use Rattle.pg_dict.specs.Inside.Store.{all_signs}
 use Rattle.pg_dots.specs.Inside.Dots.{HasWalk, is_closed, position_count}

@@ -1,4 +1,4 @@
-use Rattle.std.proofs.Common.{◌≡◌, ℕ, ◌+◌, ◌-◌, ◌≤◌, ◌<◌, List, Bool, true, false, cond, not, length, take, drop, fold, get_or, refl, sym, ap, subst, ◌∙◌, arith, rules}
+use Rattle.std.proofs.Common.{◌≡◌, ℕ, ◌+◌, ◌-◌, ◌≤◌, List, Bool, true, false, cond, not, length, take, drop, fold, refl, sym, ap, subst, ◌∙◌, arith}
 use Rattle.pg_types.specs.declared.limits.TheConstants.{WEIGHT_MAX}
 use Rattle.pg_types.specs.Inside.counting.Counts.{AreSmall, Counts, sums_of, with_count, with_weight}
 use Rattle.pg_dict.specs.declared.sites.Site.{Site}
@@ -14,7 +14,7 @@ use Rattle.pg_starts.specs.Inside.StartCountings.{AreCounting, counts_in}
 use Rattle.pg_starts.specs.Inside.Starts.{window_from}
 use Rattle.pg_driver.specs.declared.pass_windows.WordPosition.{WordPosition}
 use Rattle.pg_driver.specs.Inside.counting.OpenPositions.{counted_of}
-use Rattle.pg_driver.specs.Inside.counting.OpenSigns.{position_from, start_of}
+use Rattle.pg_driver.specs.Inside.counting.OpenSigns.{start_of}
 use Rattle.pg_driver.proofs.FlatSigns.{counted_fit, counted_none, fit_within, flat_window, sign_is, site_at, sites_count, weight_at, weights_count}
 use Rattle.pg_driver.proofs.OpenSigns.{place_of, signs_few}
 use Rattle.pg_driver.proofs.Rooms.{room_small}

@@ -1,4 +1,4 @@
-use Rattle.std.proofs.Common.{◌≡◌, ℕ, ◌+◌, ◌-◌, ◌≤◌, ◌<◌, Bool, true, false, not, ◌&&◌, cond, Option, None, Some, List, [], ◌∷◌, fold, length, take, drop, get_or, refl, sym, ap, subst, ◌∙◌, arith}
+use Rattle.std.proofs.Common.{◌≡◌, ℕ, ◌+◌, ◌-◌, ◌≤◌, Bool, true, false, not, ◌&&◌, cond, Option, None, Some, List, [], ◌∷◌, fold, length, take, drop, refl, sym, ap, subst, ◌∙◌, arith}
 use Rattle.std.specs.List.{slice_index_or}
 use Rattle.std.specs.Option.{option_map_or}
 use Rattle.pg_dict.specs.Inside.LentWords.{lent_word}
@@ -8,8 +8,8 @@ use Rattle.pg_types.specs.Inside.counting.Counts.{AreSmall, Counts, sums_of, wit
 use Rattle.pg_types.specs.Inside.counting.NumberedWindows.{HasNumber}
 use Rattle.pg_select.proofs.MarkSteps.{weight_small}
 use Rattle.pg_select.specs.declared.pass.Pass.{Pass}
-use Rattle.pg_select.specs.CountedPositions.{counted_at, counted_positions_at}
-use Rattle.pg_select.specs.Inside.engine.Meanings.{Meaning, with_position}
+use Rattle.pg_select.specs.CountedPositions.{counted_at}
+use Rattle.pg_select.specs.Inside.engine.Meanings.{with_position}
 use Rattle.pg_select.specs.Inside.words.Positions.{HasCovers}
 use Rattle.pg_select.specs.Statuses.{position_weight}
 use Rattle.pg_select.specs.Windows.{fits, is_covered, window}

@@ -2,13 +2,12 @@ use Rattle.std.proofs.Common.{◌≡◌, false, true, is_some, cond, Bool, List,
 use Rattle.pg_dict.specs.Inside.LentWords.{lent_word}
 use Rattle.pg_dict.specs.Inside.Store.{all_signs}
 use Rattle.pg_starts.specs.Inside.StartCountings.{windows_in}
-use Rattle.pg_select.specs.CountedPositions.{counted_positions_at, counts_as}
+use Rattle.pg_select.specs.CountedPositions.{counts_as}
 use Rattle.pg_select.specs.Inside.laws.AboveLevel.{counts_above}
 use Rattle.pg_driver.proofs.AboveNumbers.{above_found, is_some_above, number_noted}
 use Rattle.std.specs.List.{slice_index_or}
 use Rattle.pg_types.specs.declared.marks.Mark.{Mark}
-use Rattle.pg_select.specs.Statuses.{position_weight, status, status_at}
-use Rattle.pg_select.specs.Inside.SumSteps.{with_mark}
+use Rattle.pg_select.specs.Statuses.{status, status_at}
 use Rattle.pg_select.proofs.MarkSteps.{weight_small}
 use Rattle.pg_driver.proofs.counting.words.count_position.Goals as goal
 

@@ -1,4 +1,4 @@
-use Rattle.std.proofs.Common.{◌≡◌, ◌++◌, ◌≤◌, List, [], drop, fold}
+use Rattle.std.proofs.Common.{◌≡◌, ◌++◌, List, [], drop, fold}
 use Rattle.std.specs.List.{flat_map, sum_by}
 use Rattle.pg_dict.specs.Inside.SoundWords.{letter_count}
 use Rattle.pg_dict.specs.Inside.Store.{all_signs}

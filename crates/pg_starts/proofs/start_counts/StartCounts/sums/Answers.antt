@@ -1,4 +1,5 @@
-use Rattle.std.proofs.Common.{◌≡◌, ℕ, sym, ◌∙◌, arith}
+use Rattle.std.proofs.Common.{sym, ◌∙◌}
+use Rattle.pg_starts.specs.Inside.Tallies.{tallied}
 use Rattle.pg_starts.specs.Inside.Known.{windows_of}
 use Rattle.pg_starts.proofs.Numbering.{windows_rise}
 use Rattle.pg_starts.proofs.Tallying.{find_there}
@@ -8,4 +9,4 @@ pub returns-clause-value : goal.returns-clause-value
 returns-clause-value c = λ u at.
     let n = c.args.self.now.numbers in
     let k = c.requires.counting in
-    c.sums.ensures ∙ sym (find_there u c.args.number (windows_of c.args.signs.now n) c.args.self.now.tallies.sums.items (windows_rise c.args.signs.now n k.some k.known) at)
+    c.sums.ensures ∙ sym (find_there u c.args.number (windows_of c.args.signs.now n) (tallied c.args.self.now.tallies) (windows_rise c.args.signs.now n k.known) at)

@@ -1,18 +1,25 @@
-use Rattle.std.proofs.Common.{◌≡◌, ◌≤◌, ◌<◌, ◌+◌, ℕ, true, length, sym, ap, ◌∙◌, arith}
+use Rattle.std.proofs.Common.{◌≡◌, false, sym, subst, ◌∙◌, arith}
 use Rattle.std.proofs.lemmas.Result.{on_ok_weaker}
-use Rattle.pg_starts.specs.Inside.Starts.{has_window}
-use Rattle.pg_starts.proofs.Tests.{has_it}
+use Rattle.pg_dots.specs.declared.start_set.StartSet.{StartSet}
+use Rattle.pg_dots.specs.Inside.Starts.{is_left_out}
+use Rattle.pg_starts.proofs.Numbering.{coded_numbered, start_numbered}
 use Rattle.pg_starts.proofs.start_numbers.StartNumbers.number_all.Goals as goal
+
+pub returns-then-size-self-clause-done : goal.returns-then-size-self-clause-done
+returns-then-size-self-clause-done c =
+    let n = c.take_codes.new.self in
+    let done = c.take_codes.ensures.done in
+    let len : n.len ≡ c.args.len = done.0 ∙ c.from-size.ensures in
+    (len, λ i ends. coded_numbered c.args.signs.now n i (omega (arith, done, c.if-size-self.true)) (omega (arith, ends, len)))
 
 pub returns-clause-done : goal.returns-clause-done
 returns-clause-done c =
-    let signs = c.args.signs.now in
+    let n = c.number_next.new.self in
     on_ok_weaker c.number_next.result
-    (λ done. (
-      done.0 ∙ c.from.ensures,
-      λ i ends.
-          let inside : i + c.from.result ≤ length signs = omega (arith, ends, c.from.ensures) in
-          (λ k. has_window signs (done.1 k) (done.0 k) i)
-          ∙ has_it signs c.in_ok-all.all c.from.result i (c.in_ok-all.ensures.all i) inside,
+    (λ done.
+    let len : n.len ≡ c.args.len = done.0 ∙ c.from-size.ensures in (
+      len,
+      λ i ends. start_numbered c.args.signs.now n i
+          (subst (λ (s : StartSet). is_left_out s i ≡ false) (sym done.1) (c.in_ok-all.ensures.all i)) (omega (arith, ends, len)),
     ))
     c.number_next.ensures.done

@@ -1,19 +1,30 @@
-use Rattle.std.proofs.Common.{◌≡◌, ◌≤◌, ◌<◌, ◌+◌, ℕ, true, length, sym, ap, ◌∙◌, arith}
+use Rattle.std.proofs.Common.{◌≡◌, ◌≤◌, ◌<◌, ◌+◌, ℕ, false, length, sym, subst, ◌∙◌, arith}
 use Rattle.std.proofs.lemmas.Result.{on_ok_weaker}
-use Rattle.pg_starts.specs.Inside.Starts.{has_window}
-use Rattle.pg_starts.proofs.Tests.{has_it}
+use Rattle.pg_dots.specs.declared.start_set.StartSet.{StartSet}
+use Rattle.pg_dots.specs.Inside.Dots.{is_closed}
+use Rattle.pg_dots.specs.Inside.Starts.{is_left_out}
+use Rattle.pg_starts.proofs.Numbering.{coded_numbered, start_numbered}
 use Rattle.pg_starts.proofs.start_numbers.StartNumbers.number_open.Goals as goal
+
+pub returns-then-size-self-clause-done : goal.returns-then-size-self-clause-done
+returns-then-size-self-clause-done c =
+    let n = c.take_codes.new.self in
+    let done = c.take_codes.ensures.done in
+    let len : n.len ≡ c.args.len = done.0 ∙ c.from-size.ensures in
+    (len, λ d i upto ends low free. coded_numbered c.args.signs.now n i (omega (arith, done, c.if-size-self.true)) (omega (arith, ends, len)))
 
 pub returns-clause-done : goal.returns-clause-done
 returns-clause-done c =
+    let n = c.number_next.new.self in
     let signs = c.args.signs.now in
+    let free_at : (d i : ℕ) → d ≤ c.args.len → i + c.args.len ≤ length signs → i + d < length signs → is_closed c.args.dots.now d (i + d) ≡ false → is_left_out c.set_starts.new.starts i ≡ false =
+    λ d i upto ends low free.
+    c.set_starts.ensures.free d i upto (omega (arith, ends, c.requires.known.next_room, c.requires.len)) (omega (arith, low, c.requires.size)) free in
     on_ok_weaker c.number_next.result
-    (λ done. (
-      done.0 ∙ c.from.ensures,
-      λ d i upto ends low free.
-          let inside : i + c.from.result ≤ length signs = omega (arith, ends, c.from.ensures) in
-          (λ k. has_window signs (done.1 k) (done.0 k) i)
-          ∙ has_it signs c.set_starts.new.starts c.from.result i
-          (c.set_starts.ensures.free d i upto (omega (arith, ends, c.requires.known.next_room, c.requires.len)) (omega (arith, low, c.requires.size)) free) inside,
+    (λ done.
+    let len : n.len ≡ c.args.len = done.0 ∙ c.from-size.ensures in (
+      len,
+      λ d i upto ends low free. start_numbered signs n i
+          (subst (λ (s : StartSet). is_left_out s i ≡ false) (sym done.1) (free_at d i upto ends low free)) (omega (arith, ends, len)),
     ))
     c.number_next.ensures.done

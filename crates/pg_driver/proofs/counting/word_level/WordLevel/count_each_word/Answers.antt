@@ -1,4 +1,4 @@
-use Rattle.std.proofs.Common.{◌≡◌, true, List, refl, sym, subst}
+use Rattle.std.proofs.Common.{true, List, refl, sym, subst}
 use Rattle.pg_dict.specs.Inside.Store.{all_signs}
 use Rattle.pg_select.specs.CountedPositions.{minima_of}
 use Rattle.pg_starts.specs.Inside.StartCountings.{counts_in, windows_in}

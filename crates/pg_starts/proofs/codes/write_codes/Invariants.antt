@@ -1,0 +1,6 @@
+use Rattle.std.proofs.Common.{◌≡◌, ◌+◌, ◌<◌, ℕ, get_or}
+use Rattle.pg_starts.specs.Inside.Codes.{code_at}
+use Rattle.pg_starts.proofs.codes.write_codes.Given as goal
+
+abbrev pub invariant-starts : goal.invariant-starts
+invariant-starts l = (i : ℕ) → i < l.start → get_or l.codes i 0 ≡ code_at l.signs (l.greatest + 1) i l.len
