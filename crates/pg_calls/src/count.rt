@@ -1,8 +1,8 @@
-//! Counts of windows, short and long, of the edge 1, a 2, b 3 and c 4, and of 2,000 letters.
+//! Counts of windows, of the edge 1, a 2, b 3 and c 4, and of 2,000 letters.
 ghost use Rattle.std.specs.Prelude.{◌≡◌, ℕ, ◌+◌, ◌<◌, ◌≤◌, List, length};
 ghost use Rattle.pg_types.specs.Inside.counting.Counts.{sums_of};
 
-use pg_count::{CountTrie, WindowCounter};
+use pg_count::CountTrie;
 use pg_types::{Cursor, Sign, Weight};
 use std::process::Abort;
 use std::test::Fail;
@@ -17,14 +17,14 @@ fn count_window(
 ) -> Result<(), Fail>
     requires signs { counts.old.signs ≡ signs }
     requires len { counts.old.len ≡ length window.now }
-    requires room { (u : List ℕ) → ((sums_of counts.old.counted.counts u).0 ≤ 1000)
-        × ((sums_of counts.old.counted.counts u).1 ≤ 1000) }
+    requires room { (u : List ℕ) → ((sums_of counts.old.counts u).0 ≤ 1000)
+        × ((sums_of counts.old.counts u).1 ≤ 1000) }
     ensures signs { counts.new.signs ≡ signs }
     ensures len { counts.new.len ≡ counts.old.len }
-    ensures room { (n : ℕ) → ((u : List ℕ) → ((sums_of counts.old.counted.counts u).0 ≤ n)
-        × ((sums_of counts.old.counted.counts u).1 ≤ n))
-        → (u : List ℕ) → ((sums_of counts.new.counted.counts u).0 ≤ n + 9)
-        × ((sums_of counts.new.counted.counts u).1 ≤ n + 9) }
+    ensures room { (n : ℕ) → ((u : List ℕ) → ((sums_of counts.old.counts u).0 ≤ n)
+        × ((sums_of counts.old.counts u).1 ≤ n))
+        → (u : List ℕ) → ((sums_of counts.new.counts u).0 ≤ n + 9)
+        × ((sums_of counts.new.counts u).1 ≤ n + 9) }
 {
     if 9 < weight || !window.iter().all(|&sign| 1 <= sign && sign <= signs) {
         return Err(Fail::new("signs of the table, and a weight of one digit"));

@@ -1,4 +1,8 @@
-pub mod CellLaws
-pub mod LeafLaws
-pub mod TableLaws
-pub mod WalkLaws
+mod Chaining
+pub mod Above
+pub mod Adding
+pub mod Beginning
+pub mod Counted
+pub mod Flooring
+pub mod Nexting
+pub mod Searching

@@ -1,6 +1,4 @@
 -- What only contracts between layers and proofs need.
-pub mod walks
-pub mod cells
 pub mod Counting
-pub mod WindowRow
-pub mod Tables
+pub mod Floors
+pub mod Least

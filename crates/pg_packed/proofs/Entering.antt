@@ -4,7 +4,7 @@ use Rattle.pg_types.specs.Inside.Signs.{SignsWithin}
 use Rattle.pg_types.specs.Inside.counting.Counts.{is_counted}
 use Rattle.pg_count.specs.Inside.Counting.{Counting, IsCounting}
 
-module _ (k : Counting) (u : List ℕ) (signs len : ℕ) (kept : IsCounting k) (can : (is_counted k.counted.counts u ≡ true) ⊎ ((length u ≡ len) × SignsWithin signs u)) where
+module _ (k : Counting) (u : List ℕ) (signs len : ℕ) (kept : IsCounting k) (can : (is_counted k.counts u ≡ true) ⊎ ((length u ≡ len) × SignsWithin signs u)) where
   -- it has the length of the pass
   pub enters_len : k.len ≡ len → length u ≡ len
   enters_len same = elim can [

@@ -8,7 +8,8 @@ use Rattle.std.specs.Cmp.Lexicographic.{slice_cmp}
 use Rattle.std.specs.FinMap.{nat_cmp-IsAntisymmetric, slice_cmp-IsAntisymmetric}
 use Rattle.std.specs.FinMap.Entries.{put, find, by_order}
 use Rattle.std.specs.List.{filter, list_all, list_any, range_with_len, starts_with}
-use Rattle.pg_types.specs.Placement.{Family, Families, keeps_cell, kept_families, lowest_base, least_base, with_placed_family, with_one_sign, with_sign, family_at, without_family, is_used, cell_in, enter_after, enter, root}
+use Rattle.pg_types.specs.Placement.{Family, Families, keeps_cell, kept_families, with_placed_family, with_one_sign, with_sign, family_at, is_used, cell_in, enter_after, enter, root}
+use Rattle.pg_types.specs.Inside.PlacementSteps.{lowest_base, least_base, without_family}
 use Rattle.pg_packed.specs.Inside.Starts.{pattern_families}
 use Rattle.pg_types.proofs.EntryLists.{find_good, all_put}
 use Rattle.pg_types.proofs.BoolFacts.{and_first, and_second, all_weaker, some_is}

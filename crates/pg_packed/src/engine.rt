@@ -5,7 +5,7 @@ ghost use Rattle.pg_types.specs.Inside.Signs.{IsSignCount};
 ghost use Rattle.pg_types.specs.Tails.{tails};
 
 use crate::start::trie_of;
-use pg_count::{CountTrie, WindowCounter};
+use pg_count::CountTrie;
 use pg_dict::WordRef;
 use pg_hyph::hyphenate;
 use pg_patterns::PatternSet;
@@ -91,31 +91,8 @@ impl Engine for PackedEngine {
         self.counts.add(window, good, weight)
     }
 
-    #[inline(always)]
-    fn count_numbered(
-        &mut self,
-        window: &[Sign],
-        good: bool,
-        weight: Weight,
-    ) -> Result<u32, AllocError> {
-        self.counts.add_numbered(window, good, weight)
-    }
-
     fn sums(&self, window: &[Sign]) -> Option<(u64, u64)> {
         self.counts.sums(window)
-    }
-
-    fn sums_of(&self, number: u32) -> (u64, u64) {
-        self.counts.sums_of(number)
-    }
-
-    fn order(&self, out: &mut Vec<u32>) -> Result<(), AllocError> {
-        self.counts.order(out)
-    }
-
-    fn seek(&self, number: u32, at: &mut Cursor) {
-        let _len = self.counts.window_len();
-        at.set(self.counts.window(number));
     }
 
     fn next_candidate(&self, at: &mut Cursor) -> Option<(u64, u64)> {

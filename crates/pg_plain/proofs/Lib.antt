@@ -6,7 +6,6 @@ pub mod Strings
 pub mod Starts
 pub mod Covers
 pub mod Counted
-pub mod Counting
 pub mod Entered
 pub mod Known
-pub mod PackedWindows
+pub mod FirstSigns

@@ -1,5 +1,4 @@
 -- What only contracts between layers and proofs need.
-pub mod PlainCounts
 pub mod Strings
 pub mod Greatest
 pub mod Walks

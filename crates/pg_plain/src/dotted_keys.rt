@@ -1,12 +1,38 @@
 //! Dotted strings as the keys of maps.
-ghost use Rattle.std.specs.Prelude.{◌≡◌, ◌≤◌, length};
+ghost use Rattle.std.specs.Prelude.{◌≡◌, ◌≤◌, ◌<◌, length, slice_index_or};
 ghost use Rattle.pg_types.specs.declared.limits.TheConstants.{PATTERN_SIGNS_MAX};
+ghost use Rattle.pg_plain.specs.Inside.Keys.{four_packed};
 
-use crate::keys::packed_from;
 use pg_patterns::DottedSigns;
 use pg_types::Sign;
 use std::cmp::Ordering;
 use std::marker::Model;
+
+/// How many values fit into the room of a sign: 16 bits.
+const SIGN_ROOM: u64 = 65_536;
+
+/// The sign at an index, and 0 behind the last one.
+fn sign_at(signs: &[Sign], at: usize) -> u64
+    ensures value { result ≡ slice_index_or signs.now at 0 }
+    ensures fits { result < SIGN_ROOM }
+{
+    if at < signs.len() {
+        u64::from(signs[at])
+    } else {
+        0
+    }
+}
+
+/// The first four signs, as one number. The first sign stands highest, and 0 stands where there is
+/// none.
+fn packed(signs: &[Sign]) -> u64
+    ensures { result ≡ four_packed signs.now }
+{
+    let one = sign_at(signs, 0);
+    let two = one * SIGN_ROOM + sign_at(signs, 1);
+    let three = two * SIGN_ROOM + sign_at(signs, 2);
+    three * SIGN_ROOM + sign_at(signs, 3)
+}
 
 /// A dotted string with its first four signs as one number, so that two of them are mostly told
 /// apart by one comparison.
@@ -34,7 +60,7 @@ impl DottedKey {
         ensures { result ≡ (signs.now, dot) }
     {
         DottedKey {
-            head: packed_from(signs, 0),
+            head: packed(signs),
             dotted: DottedSigns::new(signs, dot),
         }
     }

@@ -7,7 +7,7 @@ ghost use Rattle.pg_patterns.specs.DottedSigns.{dotted_cmp};
 ghost use Rattle.pg_patterns.specs.Inside.PatternMaps.{IsPatternMap};
 ghost use Rattle.pg_plain.specs.Inside.Strings.{is_string, has_signs_up_to};
 
-use crate::counts::CountedWindows;
+use crate::counts::{add, next_behind};
 use crate::dotted_keys::DottedKey;
 use crate::dotted_maps::{map_of, put_in, raise_in, set_of};
 use crate::walk::walk;
@@ -21,15 +21,14 @@ use std::collections::BTreeMap;
 /// An [`Engine`] over ordered maps, which tells no families.
 ///
 /// A word costs a look-up for each of its strings up to the longest that a pattern begins with. To
-/// count a window or to give one up costs a look-up. To count one for the first time and to choose
-/// one cost two. To find a window by its number costs none. To begin a pass or end a level costs at
-/// most the size of what is emptied.
+/// give a window up costs a look-up. To count one and to choose one cost two. To begin a pass or end
+/// a level costs at most the size of what is emptied.
 #[derive(Drop)]
 pub struct PlainEngine {
     signs: u16,
     patterns: BTreeMap<DottedKey, u8>,
     hopeless: BTreeMap<DottedKey, ()>,
-    counts: CountedWindows,
+    counts: BTreeMap<Cursor, (u64, u64)>,
     pass: Pass,
     /// How many passes were begun. Only contracts read it.
     begun: u64,
@@ -38,8 +37,8 @@ pub struct PlainEngine {
         × (list_all (λ e. is_string e.0) hopeless.entries ≡ true) },
     ghost known: { list_all (λ e. has_signs_up_to signs e.0.0) patterns.entries ≡ true },
     ghost hopeless_known: { list_all (λ e. has_signs_up_to signs e.0.0) hopeless.entries ≡ true },
-    ghost counts_known: { list_all (λ e. has_signs_up_to signs e.0) counts.counts ≡ true },
-    ghost windows: { list_all (λ e. nat_eq (length e.0) pass.len) counts.counts ≡ true },
+    ghost counts_known: { list_all (λ e. has_signs_up_to signs e.0) counts.entries ≡ true },
+    ghost windows: { list_all (λ e. nat_eq (length e.0) pass.len) counts.entries ≡ true },
     ghost level: { (1 ≤ pass.level) × (pass.level ≤ LEVEL_MAX) },
     ghost len: { (1 ≤ pass.len) × (pass.len ≤ LENGTH_MAX) },
     ghost dot: { pass.dot ≤ pass.len },
@@ -63,7 +62,7 @@ impl PlainEngine {
             signs,
             patterns,
             hopeless: BTreeMap::new(alloc),
-            counts: CountedWindows::new(alloc),
+            counts: BTreeMap::new(alloc),
             pass: Pass {
                 level: 1,
                 len: 1,
@@ -96,39 +95,19 @@ impl Engine for PlainEngine {
     }
 
     fn count(&mut self, window: &[Sign], good: bool, weight: Weight) -> Result<(), AllocError> {
-        self.count_numbered(window, good, weight)?;
-        Ok(())
-    }
-
-    fn count_numbered(
-        &mut self,
-        window: &[Sign],
-        good: bool,
-        weight: Weight,
-    ) -> Result<u32, AllocError> {
-        self.counts.count(window, good, u64::from(weight))
+        let mut at = Cursor::start();
+        at.set(window);
+        add(&mut self.counts, at, good, u64::from(weight))
     }
 
     fn sums(&self, window: &[Sign]) -> Option<(u64, u64)> {
         let mut at = Cursor::start();
         at.set(window);
-        self.counts.sums(&at)
-    }
-
-    fn sums_of(&self, number: u32) -> (u64, u64) {
-        self.counts.sums_of(number)
-    }
-
-    fn order(&self, out: &mut Vec<u32>) -> Result<(), AllocError> {
-        self.counts.order(out)
-    }
-
-    fn seek(&self, number: u32, at: &mut Cursor) {
-        self.counts.seek(number, at);
+        self.counts.get(&at).copied()
     }
 
     fn next_candidate(&self, at: &mut Cursor) -> Option<(u64, u64)> {
-        self.counts.next_behind(at)
+        next_behind(&self.counts, at)
     }
 
     fn choose(&mut self, at: &Cursor) -> Result<(), AllocError> {

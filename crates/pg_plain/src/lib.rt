@@ -6,7 +6,6 @@ mod dotted_entry;
 mod dotted_keys;
 mod dotted_maps;
 pub mod engine;
-mod keys;
 mod walk;
 
 pub use engine::PlainEngine;

@@ -19,7 +19,8 @@ use std::ops::Bound;
 /// the value of the position of its dot to its own. It covers the window of that position where its
 /// signs stand in the window and it covers at the level of the pass. The walk takes no memory. From
 /// each sign on it looks up each string of the word in the map, up to the first with which no
-/// longer string of the map begins.
+/// longer string of the map begins. An index beside the map would save little: where no starting
+/// value is as great as the first level, a run hyphenates each word once.
 pub fn walk<F: DottedEntry>(
     map: &BTreeMap<DottedKey, F>,
     w: &[Sign],

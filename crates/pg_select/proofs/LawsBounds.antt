@@ -111,13 +111,6 @@ up_to_at_start level P below = all_weaker (λ (e : (List ℕ × ℕ) × ℕ). no
     lower : (n : ℕ) → not (nat_le level n) ≡ true → nat_le n level ≡ true
     lower n is = let less : n < level = leb-false level n (not-true (nat_le level n) is) in le-leb n level (omega arith)
 
-pub below_by_largest : (level : ℕ) (P : Patterns) → largest P < level → IsBelow level P
-below_by_largest level [] low = refl
-below_by_largest level (e ∷ es) low =
-    let rest : largest es < level = omega arith in
-    let here : e.1 < level = omega arith in
-    and_from (not (nat_le level e.1)) (list_all (λ (x : (List ℕ × ℕ) × ℕ). not (nat_le level x.1)) es) (ap not (lt-leb level e.1 here)) (below_by_largest level es rest)
-
 pub next_is_below : (level : ℕ) (P : Patterns) → IsUpTo level P → IsBelow (level + 1) P
 next_is_below level P upto = all_weaker (λ (e : (List ℕ × ℕ) × ℕ). nat_le e.1 level) (λ (e : (List ℕ × ℕ) × ℕ). not (nat_le (level + 1) e.1)) (λ e is. above e.1 is) P upto
   where

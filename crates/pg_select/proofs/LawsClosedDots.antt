@@ -1,7 +1,7 @@
 -- Closed dots tell what counts, from the start of a level through its passes and lengths.
-use Rattle.std.proofs.Common.{◌≡◌, ℕ, ◌+◌, ◌-◌, ◌<◌, ◌≤◌, nat_le, nat_eq, Bool, true, false, cond, not, ◌&&◌, ◌||◌, ⊎_elim, List, [], ◌∷◌, length, Option, Some, None, max, refl, sym, ap, ◌∙◌, arith}
+use Rattle.std.proofs.Common.{◌≡◌, ℕ, ◌+◌, ◌-◌, ◌≤◌, nat_le, nat_eq, Bool, true, false, cond, not, ◌&&◌, ◌||◌, ⊎_elim, List, [], ◌∷◌, length, Option, Some, None, max, refl, sym, ap, ◌∙◌, arith}
 use Rattle.std.specs.List.{list_all, filter, slice_index_or}
-use Rattle.std.proofs.lemmas.Bool.{and_parts, and_from, leb-true, eq-eqb, eqb-true, cases_Bool, cases_lt, or_left, and_left}
+use Rattle.std.proofs.lemmas.Bool.{and_parts, and_from, leb-true, eqb-true, cases_Bool, and_left}
 use Rattle.pg_types.specs.declared.limits.TheConstants.{LENGTH_MAX}
 use Rattle.pg_types.specs.declared.marks.Mark.{Mark}
 use Rattle.pg_types.specs.declared.marks.Mark.TheVariants.{Nothing, Error, Missed, Found, DontCare}
@@ -14,12 +14,11 @@ use Rattle.pg_select.specs.Windows.{Hopeless, window, fits, is_covered}
 use Rattle.pg_select.specs.declared.pass.Pass.{Pass}
 use Rattle.pg_select.specs.CountedPositions.{Minima, Candidate, counts_as, counted_at, counted_positions, with_sums}
 use Rattle.pg_select.proofs.LawsLater.{none_at_level, counted_back}
-use Rattle.pg_select.proofs.LawsLonger.{counted_behind, counted_before}
 use Rattle.pg_select.proofs.LawsNothing.{later_after_pass}
 use Rattle.pg_select.proofs.LawsCounts.{is_counted_window}
 use Rattle.pg_select.specs.Inside.laws.Steps.{CoversUpTo, IsBelow, IsUpTo, candidate_at, is_candidate, patterns_after_pass, hopeless_after_pass}
 use Rattle.pg_select.specs.Inside.laws.ClosedDots.{closed_at_next_length}
-use Rattle.pg_select.specs.Inside.laws.ClosedDots.{is_good, pass_at, TellCounted, IsDone, closed_after, Stays}
+use Rattle.pg_select.specs.Inside.laws.ClosedDots.{is_good, pass_at, TellCounted, closed_after, Stays}
 use Rattle.pg_select.proofs.LawsLengths.{length_step, nothing_covered, fits_parts, fits_from}
 use Rattle.pg_select.proofs.LawsRaised.{counted_uncovered, values_after, covers_after}
 
@@ -106,40 +105,6 @@ tells_longer level len P H w p closed short tells d within = by_fit (fits w.sign
         (λ one. opened (fits w.signs p len (d - 1)) (is_covered level P H (window w.signs p len (d - 1)) (d - 1)) (closed (d - 1)) (counts_as level (status_at P w p))
         (is_good level w p) (fits_before w.signs p len d (leb-true 1 d one) fit) (tells (d - 1) (omega arith)))
 
--- what is done
-pub done_by_status : (level len : ℕ) (P : Patterns) (H : Hopeless) (w : Word) (p : ℕ) → counts_as level (status_at P w p) ≡ None → IsDone level len P H w p
-done_by_status level len P H w p is d within = none_either (fits w.signs p len d && not (is_covered level P H (window w.signs p len d) d)) (counts_as level (status_at P w p)) is
-
-pub done_when_closed : (level len : ℕ) (P : Patterns) (H : Hopeless) (w : Word) (p : ℕ) (closed : ℕ → Bool) → len ≤ LENGTH_MAX
-    → ((d : ℕ) → d ≤ len → fits w.signs p len d ≡ true → closed d ≡ true) → TellCounted level len P H w p closed → IsDone level len P H w p
-done_when_closed level len P H w p closed short all tells d within = tells d (omega arith) ∙ by_fit (fits w.signs p len d) (closed d) (λ fit. all d within fit)
-  where
-    by_fit : (f c : Bool) → (f ≡ true → c ≡ true) → cond (f && not c) (Some (is_good level w p)) None ≡ None
-    by_fit false c all = refl
-    by_fit true true all = refl
-    by_fit true false all = cc (all refl)
-
-pub done_longer : (level len : ℕ) (P : Patterns) (H : Hopeless) (w : Word) (p : ℕ) → IsDone level len P H w p → IsDone level (len + 1) P H w p
-done_longer level len P H w p done d within =
-    none_from (counted_at (pass_at level (len + 1) d) P H w p) (λ g counts.
-    ⊎_elim
-    (λ (low : d < len + 1). none_some (counted_at (pass_at level len d) P H w p) g (done d (omega arith)) (counted_behind (pass_at level len d) P H w p g counts))
-    (λ (high : len + 1 ≤ d).
-    let last : d ≡ len + 1 = omega arith in
-    none_some (counted_at (pass_at level len len) P H w p) g (done len (omega arith))
-    (counted_before (pass_at level len len) P H w p g (ap (λ x. counted_at (pass_at level (len + 1) x) P H w p) (sym last) ∙ counts)))
-    (cases_lt d (len + 1)))
-
-module _ (m : Minima) (words : List Word) (pass : Pass) (P : Patterns) (H : Hopeless) (raised hopeless : Candidate → Bool) (w : Word) (p : ℕ) where
-  later : IsLater pass.level P H (patterns_after_pass m words pass P H raised) (hopeless_after_pass m words pass P H hopeless)
-  later = later_after_pass pass.level pass.dot P H (filter raised (with_sums (counted_positions m words pass P H))) (filter hopeless (with_sums (counted_positions m words pass P H)))
-
-  pub done_after : IsDone pass.level pass.len P H w p → IsDone pass.level pass.len (patterns_after_pass m words pass P H raised) (hopeless_after_pass m words pass P H hopeless) w p
-  done_after done d within =
-      none_from (counted_at (pass_at pass.level pass.len d) (patterns_after_pass m words pass P H raised) (hopeless_after_pass m words pass P H hopeless) w p) (λ g counts.
-      none_some (counted_at (pass_at pass.level pass.len d) P H w p) g (done d within)
-      (counted_back (pass_at pass.level pass.len d) P (patterns_after_pass m words pass P H raised) H (hopeless_after_pass m words pass P H hopeless) w p g later counts))
-
 pub best_up_to : (level : ℕ) (t : List ℕ × ℕ → Bool) (P : Patterns) → IsUpTo level P → greatest_value t P ≤ level
 best_up_to level t [] upto = omega arith
 best_up_to level t (e ∷ es) upto =
@@ -178,19 +143,8 @@ status_same m words pass P H raised w p none =
     zero n = omega arith
 
 module _ (m : Minima) (words : List Word) (pass : Pass) (P : Patterns) (H : Hopeless) (raised hopeless : Candidate → Bool) (w : Word) (p : ℕ) where
-  pub hopeless_stop : fits w.signs p pass.len pass.dot ≡ true → is_candidate hopeless (counted_positions m words pass P H) (window w.signs p pass.len pass.dot) ≡ true
-      → is_covered pass.level (patterns_after_pass m words pass P H raised) (hopeless_after_pass m words pass P H hopeless) (window w.signs p pass.len pass.dot) pass.dot ≡ true
-  hopeless_stop fit is =
-      covers_after m words pass P H raised hopeless w.signs p pass.dot fit
-      ∙ or_left (nat_eq pass.dot pass.dot && (is_candidate raised (counted_positions m words pass P H) (window w.signs p pass.len pass.dot)
-      || is_candidate hopeless (counted_positions m words pass P H) (window w.signs p pass.len pass.dot))) (is_covered pass.level P H (window w.signs p pass.len pass.dot) pass.dot)
-      (and_from (nat_eq pass.dot pass.dot) (is_candidate raised (counted_positions m words pass P H) (window w.signs p pass.len pass.dot)
-      || is_candidate hopeless (counted_positions m words pass P H) (window w.signs p pass.len pass.dot)) (eq-eqb pass.dot pass.dot refl)
-      (second (is_candidate raised (counted_positions m words pass P H) (window w.signs p pass.len pass.dot)) is))
-    where
-      second : (a : Bool) {b : Bool} → b ≡ true → (a || b) ≡ true
-      second true is = refl
-      second false is = is
+  later : IsLater pass.level P H (patterns_after_pass m words pass P H raised) (hopeless_after_pass m words pass P H hopeless)
+  later = later_after_pass pass.level pass.dot P H (filter raised (with_sums (counted_positions m words pass P H))) (filter hopeless (with_sums (counted_positions m words pass P H)))
 
   -- what keeps status and covers: nothing that was decided applies here
   stays_from : (fits w.signs p pass.len pass.dot && is_candidate raised (counted_positions m words pass P H) (window w.signs p pass.len pass.dot)) ≡ false
@@ -288,7 +242,7 @@ module _ (m : Minima) (words : List Word) (pass : Pass) (P : Patterns) (H : Hope
           (λ g counts. none_some (counted_at (pass_at pass.level pass.len d) P H w p) g
           (none_either (fits w.signs p pass.len d && not (is_covered pass.level P H (window w.signs p pass.len d) d)) (counts_as pass.level (status_at P w p)) none)
           (counted_back (pass_at pass.level pass.len d) P (patterns_after_pass m words pass P H raised) H (hopeless_after_pass m words pass P H hopeless) w p g
-          (later m words pass P H raised hopeless w p) counts))
+          later counts))
           ∙ sym (none_either (fits w.signs p pass.len d && not (is_covered pass.level P H (window w.signs p pass.len d) d)) (counts_as pass.level (status_at P w p)) none)
           ∙ tells d within
 

@@ -1,10 +1,9 @@
 //! The contract of an engine, which holds patterns and counts windows.
-ghost use Rattle.std.specs.Prelude.{◌≡◌, ℕ, ◌≤◌, ◌<◌, ◌+◌, ◌++◌, true, List, length, Some, IfOk, OnOk, OnErr};
+ghost use Rattle.std.specs.Prelude.{◌≡◌, ◌≤◌, ◌<◌, ◌+◌, length, IfOk, OnOk, OnErr};
 ghost use Rattle.pg_types.specs.declared.limits.TheConstants.{LEVEL_MAX, LENGTH_MAX, WORD_LETTERS_MAX};
 ghost use Rattle.pg_types.specs.Inside.Limits.{begun_before_pass};
 ghost use Rattle.pg_types.specs.Inside.Signs.{SignsWithin};
 ghost use Rattle.pg_types.specs.Inside.counting.Counts.{IsNextAbove, counted_sums};
-ghost use Rattle.pg_types.specs.Inside.counting.NumberedWindows.{AreInOrder, HasNumber};
 ghost use Rattle.pg_select.specs.Inside.engine.EngineCalls.{CanCount, CanEnter, CountsWindow, Enters};
 ghost use Rattle.pg_select.specs.Inside.engine.Meanings.{Meaning, IsMeaning, IsLayout, after_begin_pass, after_choose, after_give_up, after_end_level};
 ghost use Rattle.pg_select.specs.Inside.words.Positions.{HasValues, HasCovers};
@@ -19,13 +18,12 @@ use std::alloc::{AllocError, Global};
 /// positions, hopeless dotted strings that cover longer windows, and the counts of the windows of a
 /// pass.
 ///
-/// A run begins each pass, counts the windows of the positions that count, and chooses some of the
-/// counted windows and gives up others. It hyphenates each word once in each pass of the levels up
-/// to the greatest starting value, and once at the start of the next level. What a call does not
-/// name stays as it was.
+/// A run begins each pass, and chooses some of the windows that it counts and gives up others. It
+/// hyphenates each word once in each pass of the levels up to the greatest starting value, and once
+/// at the start of the next level. What a call does not name stays as it was.
 ///
-/// A run counts by `count_numbered`, and reads by `order`, `sums_of` and `seek`. `count`, `sums`
-/// and `next_candidate` are for callers that know windows by their signs, as tests do.
+/// A run counts windows by the numbers of their starts, outside of the engine. `count`, `sums` and
+/// `next_candidate` are for callers that know windows by their signs, as tests do.
 ///
 /// An engine is *tidy* when the tails that `layout` gives are sure to be those of its patterns. It
 /// is so when it is new, and after `end_level` until a window is chosen or given up.
@@ -34,6 +32,8 @@ pub trait Engine {
 
     /// Tells what every engine keeps: its maps stand in order, each value is 1 to
     /// [`LEVEL_MAX`](pg_types::LEVEL_MAX), and no sign is above the greatest. A call does nothing.
+    /// A law of this trait would need no call, but then each engine would have to keep such facts
+    /// in fields of its own, and to prove them at each change.
     fn kept(&self)
         ensures { IsMeaning (meaning self.now) };
 
@@ -63,43 +63,12 @@ pub trait Engine {
         ensures { CountsWindow result
             (meaning self.old) (meaning self.new) window.now good weight };
 
-    /// Counts as `count` does, and gives the window's number: its index, from 0, among the windows
-    /// of the pass in the order in which they were first counted.
-    fn count_numbered(
-        &mut self,
-        window: &[Sign],
-        good: bool,
-        weight: Weight,
-    ) -> Result<u32, AllocError>
-        requires { CanCount (meaning self.old) window.now good weight }
-        ensures counts { CountsWindow result
-            (meaning self.old) (meaning self.new) window.now good weight }
-        ensures number { IfOk result
-            (λ number. HasNumber (meaning self.new).windows window.now number) };
-
     /// The good and the bad sum of a window; none exactly where it is not counted. It takes no
     /// memory.
     fn sums(&self, window: &[Sign]) -> Option<(u64, u64)>
         requires len { length window.now ≡ (meaning self.now).pass.len }
         requires signs { SignsWithin (meaning self.now).signs window.now }
         ensures { result ≡ counted_sums (meaning self.now).counts window.now };
-
-    /// The good and the bad sum of the window with the number. It takes no memory.
-    fn sums_of(&self, number: u32) -> (u64, u64)
-        requires { number < length (meaning self.now).windows }
-        ensures { (u : List ℕ) → HasNumber (meaning self.now).windows u number
-            → counted_sums (meaning self.now).counts u ≡ Some result };
-
-    /// Appends the numbers of the counted windows in the order of signs, by one walk. After an
-    /// error some of them may have been appended.
-    fn order(&self, out: &mut Vec<u32>) -> Result<(), AllocError>
-        ensures { OnOk result ((ns : List ℕ) × (out.new.items ≡ out.old.items ++ ns)
-            × AreInOrder (meaning self.now).windows (meaning self.now).counts ns) };
-
-    /// Moves the cursor to the window with the number. It takes no memory.
-    fn seek(&self, number: u32, at: &mut Cursor)
-        requires { number < length (meaning self.now).windows }
-        ensures { HasNumber (meaning self.now).windows at.new number };
 
     /// Moves the cursor to the least counted window that is greater, and gives its good and bad
     /// sums; none exactly where there is no such window, and the cursor stays. It takes no memory.

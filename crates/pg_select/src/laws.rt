@@ -1,8 +1,5 @@
 //! Laws of the definitions of this crate. A call does nothing; its contract is the law.
 ghost use Rattle.pg_select.specs.Inside.laws.Laws.{CandidatesInOrder, CandidatesAreCounted, CountsAreTally, PositionsAreFew, CandidatesAreFew, TotalsAreSmall, CountedAreLight, SumsAreParts, CandidatesAreLow, ChosenGetLevel, OthersStay, NoneFalls, RaisesWhereItApplies, GivenUpKeepsValues, CoversWhereRaised, HopelessCovers, GivenUpCovers, LaterAtOnce, LaterStill, LaterRaised, LaterHopeless, StatusBack, CountedBack, CountsNothingLater, CountedShorter, CountsNothingLonger, LaterAfterPass, CountsNothingWhenCovered, CountsNothingAtEnd};
-ghost use Rattle.pg_select.specs.Inside.laws.Steps.{BelowByLargest, UpToLargest, UpToByBelow, NextIsBelow, UpToAfter, CoversUpToByBelow, CoversUpToLonger, CoversUpToAfter, LengthStep, NothingCovered, ValuesAfter, CoversAfter, CountedAreUncovered, TotalsAfter};
-ghost use Rattle.pg_select.specs.Inside.laws.AboveLevel.{AboveStay, TotalsAfterAbove};
-ghost use Rattle.pg_select.specs.Inside.laws.ClosedDots.{TellsAtStart, TellsLonger, TellsAfter, DoneByStatus, DoneWhenClosed, DoneLonger, DoneAfter, RaisedStop, HopelessStop, LeftStay, UncountedStay};
 
 /// The candidates of a pass are the windows that it counts. They stand strictly in the order of
 /// signs, so each once.
@@ -83,62 +80,4 @@ pub fn nothing_counts_longer()
 pub fn nothing_counts_after()
     ensures covered { CountsNothingWhenCovered }
     ensures decided { CountsNothingAtEnd }
-{}
-
-/// Where the starting patterns of a level have no value as great as it, its passes lead to none
-/// above it.
-pub fn values_up_to_the_level()
-    ensures largest { BelowByLargest }
-    ensures up_to_largest { UpToLargest }
-    ensures start { UpToByBelow }
-    ensures after { UpToAfter }
-    ensures next { NextIsBelow }
-{}
-
-/// Where no string longer than a length covers, a window of the next length is covered where one of
-/// the two shorter ones in it is.
-pub fn covers_by_length()
-    ensures none { NothingCovered }
-    ensures start { CoversUpToByBelow }
-    ensures longer { CoversUpToLonger }
-    ensures after { CoversUpToAfter }
-    ensures step { LengthStep }
-{}
-
-/// A pass changes the values of the positions whose windows it chooses, and the covers of its own
-/// windows at its own dot.
-pub fn passes_change()
-    ensures values { ValuesAfter }
-    ensures covers { CoversAfter }
-    ensures counted { CountedAreUncovered }
-{}
-
-/// A pass adds to the totals, or takes from them, the sums of the candidates that it chooses, where
-/// no value is above its level. Where some are, the positions that have them are left out: they are
-/// counted, and stay as they are.
-pub fn totals_by_the_chosen()
-    ensures chosen { TotalsAfter }
-    ensures above { TotalsAfterAbove }
-    ensures stay { AboveStay }
-{}
-
-/// A position whose window was chosen does not count any more, and one whose window was made
-/// hopeless is covered at the dot. Any other that counts keeps its status and its covers.
-pub fn positions_after_a_pass()
-    ensures raised { RaisedStop }
-    ensures hopeless { HopelessStop }
-    ensures left { LeftStay }
-    ensures uncounted { UncountedStay }
-{}
-
-/// Closed dots tell what counts at a position, from the start of a level through its passes and
-/// lengths.
-pub fn closed_dots_tell()
-    ensures start { TellsAtStart }
-    ensures longer { TellsLonger }
-    ensures after { TellsAfter }
-    ensures by_status { DoneByStatus }
-    ensures when_closed { DoneWhenClosed }
-    ensures done_longer { DoneLonger }
-    ensures done_after { DoneAfter }
 {}

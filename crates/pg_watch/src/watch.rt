@@ -51,7 +51,9 @@ pub struct RefusedFile<'a> {
 
 /// An observer. Nothing is promised of its calls, and nothing is asked of it.
 ///
-/// It is told of files and of passes, and never of a word or a position.
+/// It is told of files and of passes, and never of a word or a position. Calls borrow it, so that
+/// all engines of a sweep can share one. An observer that keeps something has it in a `Cell` or
+/// `RefCell`.
 pub trait Watch {
     /// The file of this name is read.
     fn reads(&self, name: &str);

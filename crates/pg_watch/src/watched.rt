@@ -47,18 +47,6 @@ impl<'a, E, W> Watched<'a, E, W> {
             watch,
         }
     }
-
-    /// The engine, which is watched no more.
-    pub fn into_inner(self) -> E
-        ensures { result ≡ self.entry.inner }
-    {
-        let Watched {
-            inner,
-            params: _,
-            watch: _,
-        } = self;
-        inner
-    }
 }
 
 impl<'a, E: Engine, W: Watch> Engine for Watched<'a, E, W> {
@@ -82,30 +70,8 @@ impl<'a, E: Engine, W: Watch> Engine for Watched<'a, E, W> {
         self.inner.count(window, good, weight)
     }
 
-    #[inline(always)]
-    fn count_numbered(
-        &mut self,
-        window: &[Sign],
-        good: bool,
-        weight: Weight,
-    ) -> Result<u32, AllocError> {
-        self.inner.count_numbered(window, good, weight)
-    }
-
     fn sums(&self, window: &[Sign]) -> Option<(u64, u64)> {
         self.inner.sums(window)
-    }
-
-    fn sums_of(&self, number: u32) -> (u64, u64) {
-        self.inner.sums_of(number)
-    }
-
-    fn order(&self, out: &mut Vec<u32>) -> Result<(), AllocError> {
-        self.inner.order(out)
-    }
-
-    fn seek(&self, number: u32, at: &mut Cursor) {
-        self.inner.seek(number, at);
     }
 
     fn next_candidate(&self, at: &mut Cursor) -> Option<(u64, u64)> {

@@ -9,6 +9,6 @@ pub loop-row-preserved : goal.loop-row-preserved
 loop-row-preserved c = record {
   signs = c.count_window.ensures.signs;
   len = c.count_window.ensures.len ∙ c.loop-row.invariant.len;
-  room = subst (λ n. (u : List ℕ) → ((sums_of c.count_window.new.counts.counted.counts u).0 ≤ n) × ((sums_of c.count_window.new.counts.counted.counts u).1 ≤ n))
+  room = subst (λ n. (u : List ℕ) → ((sums_of c.count_window.new.counts.counts u).0 ≤ n) × ((sums_of c.count_window.new.counts.counts u).1 ≤ n))
       (nine_more c.loop-row.row-index) (c.count_window.ensures.room (9 * c.loop-row.row-index) c.loop-row.invariant.room);
 }

@@ -27,5 +27,5 @@ room_more C D window good n weight few room is u =
     by_window false = let first : (sums_of C u).0 ≤ n = (room u).0 in let second : (sums_of C u).1 ≤ n = (room u).1 in (omega arith, omega arith)
 
 pub returns-clause-room : goal.returns-clause-room
-returns-clause-room c = λ n room. room_more c.args.counts.now.counted.counts c.add.new.self.counted.counts c.args.window.now c.args.good n c.args.weight
-    (omega arith) room (ap (λ (d : Counting). d.counted.counts) c.in_ok-add.ensures.ok)
+returns-clause-room c = λ n room. room_more c.args.counts.now.counts c.add.new.self.counts c.args.window.now c.args.good n c.args.weight
+    (omega arith) room (ap (λ (d : Counting). d.counts) c.in_ok-add.ensures.ok)

@@ -8,7 +8,6 @@ use Rattle.std.specs.FinMap.Entries.{put, is_sorted}
 use Rattle.pg_types.specs.declared.marks.Layout.{Layout}
 use Rattle.pg_types.specs.Inside.Signs.{SignsWithin}
 use Rattle.pg_types.specs.Inside.counting.Counts.{Counts, with_count, is_counted}
-use Rattle.pg_types.specs.Inside.counting.NumberedWindows.{Windows, AreNumbered, with_next_window}
 use Rattle.pg_types.specs.Placement.{Families, taken_count, top, enter, kept_families}
 use Rattle.pg_types.specs.Tails.{tails}
 use Rattle.pg_patterns.specs.DottedSigns.{dotted_cmp}
@@ -24,7 +23,6 @@ pub record Meaning : Type 0 where
   pub patterns : Patterns
   pub hopeless : Hopeless
   pub counts : Counts
-  pub windows : Windows
   pub pass : Pass
   pub families : Option Families
   pub begun : ℕ
@@ -37,7 +35,6 @@ pub record IsMeaning (m : Meaning) : Type 0 where
   pub counts_order : T (is_sorted (slice_cmp nat_cmp) m.counts)
   pub pattern_signs : SignsUpTo m.signs m.patterns
   pub hopeless_signs : All (λ e. SignsWithin m.signs e.0.0) m.hopeless
-  pub numbered : AreNumbered m.windows m.counts
   pub counted_signs : (u : List ℕ) → is_counted m.counts u ≡ true → SignsWithin m.signs u
 
 -- an engine that was just made: it has these patterns and families, and nothing else yet
@@ -47,7 +44,6 @@ new_engine signs P families = record {
   patterns = P;
   hopeless = [];
   counts = [];
-  windows = [];
   pass = record { level = 1; len = 1; dot = 0 };
   families = families;
   begun = 0;
@@ -64,7 +60,6 @@ after_begin_pass m level len dot =
     record m {
       pass = record { level = level; len = len; dot = dot };
       counts = [];
-      windows = [];
       begun = m.begun + 1;
     }
 
@@ -73,7 +68,6 @@ abbrev pub after_count : Meaning → List ℕ → Bool → ℕ → Meaning
 after_count m u good weight =
     record m {
       counts = with_position m.counts (record { window = u; good = good; weight = weight });
-      windows = with_next_window m.windows m.counts u;
     }
 
 -- the families after a string is entered, where they are told

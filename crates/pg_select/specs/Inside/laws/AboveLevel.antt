@@ -1,6 +1,6 @@
--- The laws of positions whose value is above the level: a pass counts them like others, but no
--- choice changes their value.
-use Rattle.std.specs.Prelude.{◌≡◌, ℕ, ◌-◌, ◌≤◌, nat_lt, Bool, not, ◌&&◌, if◌then◌else◌, List, [], ◌∷◌, length, sum_by, Option, None, MatchBool}
+-- Positions whose value is above the level: a pass counts them like others, but no choice changes
+-- their value.
+use Rattle.std.specs.Prelude.{ℕ, ◌-◌, ◌≤◌, nat_lt, Bool, not, ◌&&◌, if◌then◌else◌, List, [], ◌∷◌, length, sum_by, Option, None, MatchBool}
 use Rattle.std.specs.List.{flat_map}
 use Rattle.std.specs.Option.{option_map_or}
 use Rattle.pg_types.specs.declared.marks.Totals.{Totals}
@@ -8,11 +8,10 @@ use Rattle.pg_translate.specs.Reach.{positions}
 use Rattle.pg_dict.specs.Word.{Word}
 use Rattle.pg_patterns.specs.Values.{Patterns, value_at}
 use Rattle.pg_select.specs.declared.pass.Pass.{Pass}
-use Rattle.pg_select.specs.CountedPositions.{Minima, CountedPosition, Candidate, counts_as, counted_positions}
-use Rattle.pg_select.specs.Inside.laws.Steps.{is_candidate, patterns_after_pass, good_raised, bad_raised, FindsMore, PreventsMore}
-use Rattle.pg_select.specs.Statuses.{is_odd, status_at, position_weight}
-use Rattle.pg_select.specs.Sums.{totals}
-use Rattle.pg_select.specs.Windows.{Hopeless, window, fits}
+use Rattle.pg_select.specs.CountedPositions.{Minima, CountedPosition, Candidate, counts_as}
+use Rattle.pg_select.specs.Inside.laws.Steps.{is_candidate, FindsMore, PreventsMore}
+use Rattle.pg_select.specs.Statuses.{status_at, position_weight}
+use Rattle.pg_select.specs.Windows.{window, fits}
 
 -- what a position counts as at a level, where its value is above the level
 abbrev pub counts_above : ℕ → Patterns → Word → ℕ → Option Bool
@@ -47,13 +46,6 @@ abbrev pub bad_above : (Candidate → Bool) → List CountedPosition → List Co
 bad_above raised counted above = sum_by
     (λ s. if not s.good && is_candidate raised counted s.window then s.weight else 0) above
 
--- the positions that count above the level are the same after a pass
-abbrev pub AboveStay : Type 0
-AboveStay = (m : Minima) (words : List Word) (pass : Pass) (P : Patterns) (H : Hopeless)
-    (raised : Candidate → Bool) (w : Word) (p : ℕ)
-    → counts_above pass.level (patterns_after_pass m words pass P H raised) w p
-    ≡ counts_above pass.level P w p
-
 -- a part of the raised sums changes no total, and the rest moves in the totals
 pub record MovesAllBut (odd : Bool) (old new : Totals)
     (good bad good_stays bad_stays : ℕ) : Type 0 where
@@ -61,14 +53,3 @@ pub record MovesAllBut (odd : Bool) (old new : Totals)
   pub bad_within : bad_stays ≤ bad
   pub totals : MatchBool odd (FindsMore old new (good - good_stays) (bad - bad_stays))
       (PreventsMore old new (good - good_stays) (bad - bad_stays))
-
--- a pass moves in the totals what it raised, except the positions whose value is above the level
-abbrev pub TotalsAfterAbove : Type 0
-TotalsAfterAbove = (m : Minima) (words : List Word) (pass : Pass) (P : Patterns) (H : Hopeless)
-    (raised : Candidate → Bool)
-    → MovesAllBut (is_odd pass.level) (totals m words P)
-    (totals m words (patterns_after_pass m words pass P H raised))
-    (good_raised raised (counted_positions m words pass P H))
-    (bad_raised raised (counted_positions m words pass P H))
-    (good_above raised (counted_positions m words pass P H) (above_positions m words pass P))
-    (bad_above raised (counted_positions m words pass P H) (above_positions m words pass P))

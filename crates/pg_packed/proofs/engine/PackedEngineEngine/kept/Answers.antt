@@ -37,6 +37,5 @@ returns c =
       counts_order = counts.sorted;
       pattern_signs = trie.known;
       hopeless_signs = hopeless_within c.args.self.now.trie.signs c.args.self.now.trie.hopeless trie.dotted;
-      numbered = c.window_len-len.ensures.numbered;
       counted_signs = λ u there. subst (λ n. SignsWithin n u) c.args.self.now.one_alphabet (counts.signs u there);
     }

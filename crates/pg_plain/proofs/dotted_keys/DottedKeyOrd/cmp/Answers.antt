@@ -1,7 +1,7 @@
 use Rattle.std.proofs.Common.{nat_cmp, sym, ap, ◌∙◌}
 use Rattle.std.specs.Ordering.{ordering_then}
 use Rattle.pg_patterns.specs.DottedSigns.{dotted_cmp}
-use Rattle.pg_plain.proofs.PackedWindows.{decided, heads_differ}
+use Rattle.pg_plain.proofs.FirstSigns.{decided, heads_differ}
 use Rattle.pg_plain.proofs.dotted_keys.DottedKeyOrd.cmp.Goals as goal
 
 pub returns-then-self-other : goal.returns-then-self-other

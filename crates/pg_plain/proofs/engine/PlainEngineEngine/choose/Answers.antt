@@ -8,7 +8,7 @@ use Rattle.pg_plain.proofs.engine.PlainEngineEngine.choose.Goals as goal
 pub invariant_of-self-clause-entries : goal.invariant_of-self-clause-entries
 invariant_of-self-clause-entries c =
     let size : length c.signs-signs.result.now ≡ c.args.self.now.pass.len = ap (λ x. length x) c.signs-signs.ensures.value
-    ∙ enters_len c.args.self.now.counts.counts c.args.self.now.signs c.args.at.now c.args.self.now.pass.len c.requires c.args.self.now.windows in
+    ∙ enters_len c.args.self.now.counts.entries c.args.self.now.signs c.args.at.now c.args.self.now.pass.len c.requires c.args.self.now.windows in
     c.raise_in.ensures.kept c.args.self.now.entries
     (subst (λ k. is_entry (k, c.args.self.now.pass.level) ≡ true) (sym c.new-dotted.ensures)
     (window_entry c.signs-signs.result.now c.args.self.now.pass.dot c.args.self.now.pass.level c.args.self.now.pass.len size c.signs-signs.ensures.signs
@@ -18,4 +18,4 @@ pub invariant_of-self-clause-known : goal.invariant_of-self-clause-known
 invariant_of-self-clause-known c =
     c.raise_in.ensures.dotted (λ k. has_signs_up_to c.args.self.now.signs k.0) c.args.self.now.known
     (ap (λ (k : List ℕ × ℕ). has_signs_up_to c.args.self.now.signs k.0) c.new-dotted.ensures ∙ ap (has_signs_up_to c.args.self.now.signs) c.signs-signs.ensures.value
-    ∙ enters_signs c.args.self.now.counts.counts c.args.self.now.signs c.args.at.now c.args.self.now.pass.len c.requires c.args.self.now.counts_known)
+    ∙ enters_signs c.args.self.now.counts.entries c.args.self.now.signs c.args.at.now c.args.self.now.pass.len c.requires c.args.self.now.counts_known)

@@ -1,3 +1,0 @@
--- How the counted windows stand in cells.
-pub mod CellNumbers
-pub mod Leaves

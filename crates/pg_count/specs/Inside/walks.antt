@@ -1,4 +1,0 @@
--- What a walk along the signs finds.
-pub mod Floors
-pub mod Least
-pub mod CountedBelow
