@@ -5,7 +5,8 @@ use Rattle.std.proofs.lemmas.List.{get_or_past, get_or_default}
 use Rattle.std.specs.List.{list_any}
 use Rattle.std.specs.Option.{option_map}
 use Rattle.std.specs.FinMap.{find, put, is_sorted}
-use Rattle.pg_types.specs.Placement.{Family, Families, family_at, without_family, is_used, least_base, with_one_sign, with_sign, with_placed_family, base_of}
+use Rattle.pg_types.specs.Placement.{Family, Families, family_at, is_used, with_one_sign, with_sign, with_placed_family, base_of}
+use Rattle.pg_types.specs.Inside.PlacementSteps.{without_family, least_base}
 use Rattle.pg_types.specs.Inside.Placing.{cell_of}
 use Rattle.pg_cells.specs.declared.store.fit.Slot.{Slot}
 use Rattle.pg_cells.specs.Inside.store.CellRows.{Row, sign_at, child_at, base_at, IsFree}

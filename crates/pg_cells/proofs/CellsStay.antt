@@ -4,7 +4,8 @@ use Rattle.std.proofs.lemmas.Bool.{ne_eqb, eqb-true}
 use Rattle.std.proofs.lemmas.List.{same_from_push}
 use Rattle.std.specs.List.{list_any}
 use Rattle.std.specs.FinMap.{put}
-use Rattle.pg_types.specs.Placement.{Family, Families, family_at, without_family, is_used, least_base, with_placed_family, with_one_sign, with_sign}
+use Rattle.pg_types.specs.Placement.{Family, Families, family_at, is_used, with_placed_family, with_one_sign, with_sign}
+use Rattle.pg_types.specs.Inside.PlacementSteps.{without_family, least_base}
 use Rattle.pg_types.specs.Inside.Placing.{cell_of, without_sign}
 use Rattle.pg_cells.specs.Inside.families.OneTrie.{last_of}
 use Rattle.pg_cells.proofs.StringMaps.{order, equal_or_not, find_put_same, find_put_other, find_without_same, find_without_other}

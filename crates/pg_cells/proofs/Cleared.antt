@@ -4,7 +4,8 @@ use Rattle.std.proofs.lemmas.Bool.{cases_Bool, cases_eq, eq-eqb, ne_eqb, both_wa
 use Rattle.std.proofs.lemmas.List.{length-map}
 use Rattle.std.specs.List.{list_any, list_all}
 use Rattle.std.specs.FinMap.{is_sorted}
-use Rattle.pg_types.specs.Placement.{Family, Families, family_at, without_family, is_used, is_base, fits_at, least_base, with_one_sign, top}
+use Rattle.pg_types.specs.Placement.{Family, Families, family_at, is_used, with_one_sign, top}
+use Rattle.pg_types.specs.Inside.PlacementSteps.{without_family, is_base, fits_at, least_base}
 use Rattle.pg_types.specs.Inside.Placing.{IsLeast}
 use Rattle.pg_cells.specs.declared.store.fit.Slot.{Slot}
 use Rattle.pg_cells.specs.Inside.store.CellRows.{Row, sign_at, child_at, base_at}

@@ -4,7 +4,8 @@ use Rattle.std.proofs.lemmas.Bool.{cases_eq, eq-eqb, ne_eqb, eqb-true, both_ways
 use Rattle.std.proofs.lemmas.List.{length-map}
 use Rattle.std.specs.List.{list_any, list_all}
 use Rattle.std.specs.FinMap.{put}
-use Rattle.pg_types.specs.Placement.{Family, Families, family_at, without_family, least_base, with_one_sign}
+use Rattle.pg_types.specs.Placement.{Family, Families, family_at, with_one_sign}
+use Rattle.pg_types.specs.Inside.PlacementSteps.{without_family, least_base}
 use Rattle.pg_types.specs.Inside.Placing.{cell_of}
 use Rattle.pg_cells.specs.declared.store.fit.Slot.{Slot}
 use Rattle.pg_cells.specs.Inside.store.CellRows.{Row, sign_at, child_at, base_at}

@@ -9,7 +9,8 @@ use Rattle.std.specs.Ordering.{is_eq}
 use Rattle.std.specs.List.{list_any, flat_map}
 use Rattle.std.specs.FinMap.{find, put, is_sorted}
 use Rattle.std.specs.FinMap.Entries.{by_order}
-use Rattle.pg_types.specs.Placement.{Family, Families, family_at, without_family, used_cells, taken_count, top, is_used, is_base, first_from, cell_in}
+use Rattle.pg_types.specs.Placement.{Family, Families, family_at, used_cells, taken_count, top, is_used, first_from, cell_in}
+use Rattle.pg_types.specs.Inside.PlacementSteps.{without_family, is_base}
 use Rattle.pg_types.specs.Inside.Placing.{cell_after, cell_of, cells_of}
 use Rattle.pg_types.proofs.LeastBase.{used_le_top, lowest_up}
 use Rattle.pg_cells.specs.Inside.families.Searches.{far_from_top, search_start}

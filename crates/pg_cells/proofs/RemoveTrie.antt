@@ -5,7 +5,8 @@ use Rattle.std.proofs.lemmas.List.{same_from_push}
 use Rattle.std.specs.List.{list_any, range_with_len}
 use Rattle.std.specs.Option.{option_map}
 use Rattle.std.specs.FinMap.{put}
-use Rattle.pg_types.specs.Placement.{Family, Families, family_at, without_family}
+use Rattle.pg_types.specs.Placement.{Family, Families, family_at}
+use Rattle.pg_types.specs.Inside.PlacementSteps.{without_family}
 use Rattle.pg_types.specs.Inside.Placing.{without_sign}
 use Rattle.pg_cells.specs.Inside.store.CellRows.{Row, sign_at, child_at}
 use Rattle.pg_cells.specs.Inside.store.Writes.{Frees, SetsBase}

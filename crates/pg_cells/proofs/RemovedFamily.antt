@@ -2,7 +2,8 @@
 use Rattle.std.proofs.Common.{◌≡◌, ◌≢◌, ℕ, ◌+◌, ◌<◌, inl, inr, true, false, cond, nat_eq, List, [], ◌∷◌, ◌++◌, length, None, Some, slice_get, sym, ◌∙◌, ap, arith}
 use Rattle.std.proofs.lemmas.Bool.{cases_Bool, cases_eq, false≢true}
 use Rattle.std.specs.List.{list_any}
-use Rattle.pg_types.specs.Placement.{Family, Families, family_at, without_family}
+use Rattle.pg_types.specs.Placement.{Family, Families, family_at}
+use Rattle.pg_types.specs.Inside.PlacementSteps.{without_family}
 use Rattle.pg_types.specs.Inside.Placing.{cell_of}
 use Rattle.pg_cells.specs.Inside.store.CellRows.{Row, sign_at, child_at, base_at}
 use Rattle.pg_cells.specs.Inside.store.Writes.{Frees, SetsBase, SetsChild}

@@ -5,7 +5,8 @@ use Rattle.std.proofs.lemmas.List.{append_assoc, take_more, drop_more, take-appe
 use Rattle.std.specs.List.{list_any}
 use Rattle.std.specs.Option.{option_map}
 use Rattle.std.specs.FinMap.{find, put}
-use Rattle.pg_types.specs.Placement.{Family, Families, family_at, cell_in, base_of, with_sign, enter_by, enter_after}
+use Rattle.pg_types.specs.Placement.{Family, Families, family_at, cell_in, base_of, with_sign, enter_after}
+use Rattle.pg_types.specs.Inside.PlacementSteps.{enter_by}
 use Rattle.pg_types.specs.Inside.Placing.{cell_of}
 use Rattle.pg_cells.specs.Inside.linked.ValuedFamilies.{ValuedFamilies}
 use Rattle.pg_cells.specs.Inside.linked.AreValuedFamilies.{AreValuedFamilies}

@@ -1,7 +1,6 @@
 -- The words of a dictionary file.
-use Rattle.std.specs.Prelude.{ℕ, nat_lt, Bool, true, false, if◌then◌else◌, List, [], ◌∷◌, ◌++◌, length, map, slice_index_or, Result, Err}
+use Rattle.std.specs.Prelude.{ℕ, ◌-◌, nat_lt, true, false, if◌then◌else◌, List, [], ◌∷◌, ◌++◌, length, map, slice_range, slice_index_or, Result, Err}
 use Rattle.pg_types.specs.declared.limits.TheConstants.{EDGE, FILE_MAX}
-use Rattle.pg_types.specs.declared.marks.Mark.{Mark}
 use Rattle.pg_types.specs.declared.marks.Mark.TheVariants.{Missed, Found, DontCare}
 use Rattle.pg_types.specs.declared.refusals.Kind.TheVariants.{DictionaryTooLong}
 use Rattle.pg_types.specs.declared.refusals.Refusal.{Refusal}
@@ -10,48 +9,35 @@ use Rattle.pg_types.specs.ValuesOrRefusals.{refusal_at}
 use Rattle.pg_translate.specs.declared.items.Place.TheVariants.{Dictionary}
 use Rattle.pg_translate.specs.Alphabets.{Alphabet}
 use Rattle.pg_translate.specs.Tokens.{Token}
-use Rattle.pg_translate.specs.Gaps.{signs_of, gaps, inner_gaps, last_number, last_mark}
+use Rattle.pg_translate.specs.Gaps.{signs_of, gaps, last_number, last_mark}
 use Rattle.pg_translate.specs.LineRefusals.{of_lines}
 use Rattle.pg_dict.specs.Word.{Word}
 
--- a position whose last mark is missed or found has a hyphen
-abbrev pub sets_hyphen : Mark → Bool
-sets_hyphen Missed = true
-sets_hyphen Found = true
-sets_hyphen mark = false
-
--- a position whose last mark is don't-care has no care
-abbrev pub keeps_care : Mark → Bool
-keeps_care DontCare = false
-keeps_care mark = true
-
 -- what a word has at its positions: `plain` at the first two and the last, and at the others what
--- their gap gives
+-- the gap between their two signs gives
 abbrev pub at_positions : {X : Type 0} → X → (List Token → X) → List Token → List X
-at_positions plain of_gap items = plain ∷ plain ∷ (map of_gap (inner_gaps items) ++ plain ∷ [])
+at_positions plain of_gap items = plain ∷ plain ∷ (map of_gap
+    (slice_range (gaps items) 1 (length (gaps items) - 1)) ++ plain ∷ [])
 
 -- the word of a line: its letters between two edges. A position has the last mark and the last
--- number of its gap
+-- number of its gap: missed and found are a hyphen, and don't-care is no care
 abbrev pub word_of_items : ℕ → List Token → Word
 word_of_items weight items = record {
   signs = EDGE ∷ (signs_of items ++ EDGE ∷ []);
-  hyphens = at_positions false (λ gap. sets_hyphen (last_mark gap)) items;
+  hyphens = at_positions false
+      (λ gap. elim (last_mark gap) [ Missed ↦ true | Found ↦ true | other ↦ false ]) items;
   weights = at_positions weight (last_number weight) items;
-  cares = at_positions true (λ gap. keeps_care (last_mark gap)) items;
+  cares = at_positions true (λ gap. elim (last_mark gap) [ DontCare ↦ false | other ↦ true ]) items;
   weight = weight;
 }
 
--- one word of a line that has letters, and none of a line without
-abbrev pub words_if : List ℕ → Word → List Word
-words_if [] word = []
-words_if (sign ∷ signs) word = word ∷ []
-
--- the words of lines below a line with this word weight. That of a line is the last number before
--- its first letter, else that of the line before
+-- the words of lines below a line with this word weight, one of each line that has letters. The
+-- weight of a line is the last number before its first letter, else that of the line before
 abbrev pub line_words : ℕ → List (List Token) → List Word
 line_words before [] = []
 line_words before (line ∷ ls) = let weight = last_number before (slice_index_or (gaps line) 0 []) in
-    words_if (signs_of line) (word_of_items weight line) ++ line_words weight ls
+    elim (signs_of line) [ [] ↦ [] | sign ∷ signs ↦ word_of_items weight line ∷ [] ]
+    ++ line_words weight ls
 
 -- the words of a dictionary file, or its first refusal
 abbrev pub words : Alphabet → List ℕ → Result (List Word) Refusal

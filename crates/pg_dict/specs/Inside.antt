@@ -5,4 +5,6 @@ pub mod LineWords
 pub mod LentWords
 pub mod WrittenWords
 pub mod SoundWords
+pub mod MarkedPositions
+pub mod Parts
 pub mod Lines

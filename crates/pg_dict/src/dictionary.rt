@@ -8,7 +8,8 @@ ghost use Rattle.pg_dict.specs.DictionaryWords.{words};
 ghost use Rattle.pg_dict.specs.Inside.Sites.{all_sites};
 ghost use Rattle.pg_dict.specs.Inside.Store.{all_signs, all_weights, stored_words, IsSound};
 ghost use Rattle.pg_dict.specs.Inside.LentWords.{lent_word};
-ghost use Rattle.pg_dict.specs.Parts.{is_in_part, part_of};
+ghost use Rattle.pg_dict.specs.Parts.{part_of};
+ghost use Rattle.pg_dict.specs.Inside.Parts.{is_in_part};
 
 use crate::entries::read_line;
 use crate::sites::{Site, sites_of};

@@ -215,7 +215,7 @@ impl OpenDots {
 
     /// Goes on to the next level. Each dot is open at those positions alone that were closed
     /// altogether and are not kept closed. No dot is reached, and the memory of all rows but one is
-    /// given back.
+    /// given back. The windows of the first passes need most of it.
     pub fn next_level(&mut self, kept: &PositionSet)
         requires room { positions_room kept.now ≡ position_count self.old }
         ensures positions { position_count self.new ≡ position_count self.old }

@@ -6,7 +6,8 @@ ghost use Rattle.pg_dots.specs.Inside.Walks.{IsAhead, IsFirstFailing};
 use pg_types::bits::{NUMBER_BITS, lowest_set};
 
 /// How far a walk over the clear bits of a row has come: the number where it is, and which clear
-/// bits of that number are ahead.
+/// bits of that number are ahead. It has this number in hand, so what it has passed may be closed
+/// while it goes on. It passes over each number that has no clear bit.
 #[derive(Clone, Copy)]
 pub struct Walk {
     /// The index of the number.

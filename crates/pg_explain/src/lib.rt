@@ -4,6 +4,10 @@
 //!
 //! `wrong` says what can be explained, and `explanation` is the call. The statuses 0 to 4 have a
 //! module each: `notes` (0), `false_lines` (1), `arguments` (2), `refused` (3) and `faults` (4).
+//!
+//! A text stands whole in the source, so that it can be sought there, with `$0` to `$9` for the
+//! names, bytes and numbers in it. Limits come from the constants, but a number with a comma stands
+//! in the text.
 #![tactic(auto)]
 
 mod arguments;

@@ -18,7 +18,8 @@ use Rattle.pg_translate.specs.declared.items.Place.TheVariants.{Patterns}
 use Rattle.pg_translate.specs.Alphabets.{Alphabet}
 use Rattle.pg_translate.specs.Tokens.{Token, Letter, Digit, Weight, Marked, Edge}
 use Rattle.pg_translate.specs.Cuts.{cut}
-use Rattle.pg_translate.specs.Gaps.{signs_of, gaps, number_of, last_else, last_number}
+use Rattle.pg_translate.specs.Gaps.{signs_of, gaps, last_else, last_number}
+use Rattle.pg_translate.specs.Inside.items.GapItems.{number_of}
 use Rattle.pg_translate.specs.Inside.items.Digits.{digit_of, last_digit}
 use Rattle.pg_translate.specs.LineRefusals.{line_refusal, of_lines}
 use Rattle.pg_translate.proofs.ItemKinds.{is_plain, no_weight}

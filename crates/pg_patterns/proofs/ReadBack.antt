@@ -19,7 +19,8 @@ use Rattle.pg_translate.specs.Gaps.{sign_of, signs_of}
 use Rattle.pg_patterns.specs.Inside.EntryLines.{digit_at_dot, entries_at, entries_of_items, entries_from}
 use Rattle.pg_patterns.proofs.Running.{digits_from, digits_are}
 use Rattle.pg_types.specs.Inside.reading.Parts.{both_parts}
-use Rattle.pg_patterns.specs.Texts.{value_digit, line_from, pattern_line}
+use Rattle.pg_patterns.specs.Texts.{value_digit, line_from}
+use Rattle.pg_patterns.specs.Inside.PatternLines.{pattern_line}
 use Rattle.pg_types.proofs.BoolFacts.{and_first, and_second, equal_is}
 use Rattle.pg_patterns.proofs.Sound.{entry_bounds}
 use Rattle.pg_translate.specs.declared.items.Place.TheVariants.{Patterns}

@@ -15,7 +15,8 @@ use Rattle.pg_patterns.specs.DottedSigns.{dotted_cmp}
 use Rattle.pg_patterns.specs.Inside.DottedOrder.{dotted_total}
 use Rattle.pg_patterns.specs.Inside.PatternMaps.{IsPatternMap, is_entry}
 use Rattle.pg_patterns.specs.Inside.Search.{is_after, HasRank}
-use Rattle.pg_patterns.specs.Texts.{with_string, strings_of, pattern_line}
+use Rattle.pg_patterns.specs.Texts.{with_string, strings_of}
+use Rattle.pg_patterns.specs.Inside.PatternLines.{pattern_line}
 use Rattle.pg_types.proofs.BoolFacts.{equal_is, greater_is}
 use Rattle.pg_patterns.specs.Values.{Patterns}
 use Rattle.pg_patterns.proofs.Ordered.{sorted_at, after_below}

@@ -2,5 +2,6 @@
 pub mod Search
 pub mod Drafts
 pub mod EntryLines
+pub mod PatternLines
 pub mod PatternMaps
 pub mod DottedOrder

@@ -27,10 +27,6 @@ line_from t P q dot [] = value_digit P (q, dot) ++ 10 ∷ []
 line_from t P q dot (s ∷ ss) = value_digit P (q, dot)
     ++ spelling_of t s ++ line_from t P q (dot + 1) ss
 
--- the line of a string
-abbrev pub pattern_line : Alphabet → Patterns → List ℕ → List ℕ
-pattern_line t P q = line_from t P q 0 q
-
 -- the text of a map: a line for each of its strings
 abbrev pub pattern_text : Alphabet → Patterns → List ℕ
-pattern_text t P = flat_map (pattern_line t P) (strings_of P)
+pattern_text t P = flat_map (λ q. line_from t P q 0 q) (strings_of P)

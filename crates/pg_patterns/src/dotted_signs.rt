@@ -6,7 +6,9 @@ use std::cmp::Ordering;
 use std::marker::Model;
 
 /// Up to [`PATTERN_SIGNS_MAX`] signs and a dot, the number of signs before it. Dotted strings are
-/// ordered by their signs, a string before its extensions, and then by their dots.
+/// ordered by their signs, a string before its extensions, and then by their dots. They are the
+/// keys of the plain engine's maps too, which so have the order of a
+/// [`PatternSet`](crate::PatternSet).
 #[derive(Drop)]
 pub struct DottedSigns {
     signs: [Sign; PATTERN_SIGNS_MAX],

@@ -19,7 +19,8 @@ use crate::rounds::holders::Holders;
 use pg_patterns::PatternSet;
 use std::alloc::{AllocError, Global};
 
-/// An observer of the rounds. Nothing is promised of its calls, and nothing is asked of it.
+/// An observer of the rounds. Nothing is promised of its calls, and nothing is asked of it. It is a
+/// trait of its own, so that this crate stands on no observer of a call.
 pub trait RoundObserver {
     /// A round begins, counted from 1.
     fn begins(&self, round: u64);

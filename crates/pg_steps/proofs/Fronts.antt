@@ -6,7 +6,8 @@ use Rattle.std.specs.List.{onto_first}
 use Rattle.pg_types.specs.declared.limits.TheConstants.{FILE_MAX}
 use Rattle.pg_types.specs.declared.refusals.Refusal.{Refusal}
 use Rattle.pg_types.specs.declared.refusals.Kind.TheVariants.{TranslateTooLong, ParametersTooLong, PatternsTooLong, DictionaryTooLong}
-use Rattle.pg_types.specs.Lines.{lines, pieces_at, is_line_feed, without_cr}
+use Rattle.pg_types.specs.Lines.{lines, pieces_at, is_line_feed}
+use Rattle.pg_types.specs.Inside.reading.LineEnds.{without_cr}
 use Rattle.pg_types.specs.Parameters.{parameters, parameters_of, items, demands, refusal_from}
 use Rattle.pg_types.specs.ValuesOrRefusals.{unless, refusal_at as refused_in}
 use Rattle.pg_translate.specs.Alphabets.{Alphabet}

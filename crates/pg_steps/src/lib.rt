@@ -1,5 +1,6 @@
 //! The steps that all commands share: they read a file as an input, write files, put lines and end
-//! with an answer. Each says which part of the plan of a call it did.
+//! with an answer. Each says which part of the plan of a call it did. They know no engine. So they
+//! are proved early, and each must-fail edit of pg_top begins with a smaller crate.
 #![tactic(auto)]
 
 pub mod ends;

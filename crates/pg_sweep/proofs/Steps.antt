@@ -8,7 +8,9 @@ use Rattle.std.proofs.lemmas.List.FromFn.{sum_by-map-range_with_len_more}
 use Rattle.pg_types.specs.declared.marks.Totals.{Totals}
 use Rattle.pg_dict.specs.Word.{Word}
 use Rattle.pg_dict.specs.Inside.SoundWords.{SignsAtMost}
-use Rattle.pg_dict.specs.Parts.{is_in_part, part_from}
+use Rattle.pg_dict.specs.Parts.{part_of}
+use Rattle.pg_dict.specs.Inside.Parts.{is_in_part, part_from}
+use Rattle.pg_dict.proofs.WordStore.Parts.{whole_part}
 use Rattle.pg_sweep.specs.declared.rows.SweepRow.{SweepRow}
 use Rattle.pg_sweep.specs.Files.{row_data}
 use Rattle.pg_sweep.specs.Inside.Rows.{rows_data}
@@ -21,11 +23,14 @@ all_if P true x xs here rest = All-cons P x xs here rest
 all_if P false x xs here rest = rest
 
 -- the signs of a part are those of its words
-pub part_signs : (n folds fold : ℕ) (inside : Bool) (i : ℕ) (ws : List Word) → SignsAtMost n ws → SignsAtMost n (part_from folds fold inside i ws)
+part_signs : (n folds fold : ℕ) (inside : Bool) (i : ℕ) (ws : List Word) → SignsAtMost n ws → SignsAtMost n (part_from folds fold inside i ws)
 part_signs n folds fold inside i [] most = most
 part_signs n folds fold inside i (w ∷ ws) most =
     let P : Word → Type 0 = λ (u : Word). All (λ sign. sign ≤ n) u.signs in
     all_if P (is_in_part folds fold inside i) w (part_from folds fold inside (i + 1) ws) (most 0 w (omega arith)) (part_signs n folds fold inside (i + 1) ws (All-tail P w ws most))
+
+pub fold_signs : (n folds fold : ℕ) (inside : Bool) (ws : List Word) → SignsAtMost n ws → SignsAtMost n (part_of folds fold inside ws)
+fold_signs n folds fold inside ws most = subst (λ (us : List Word). SignsAtMost n us) (whole_part folds fold inside ws) (part_signs n folds fold inside 0 ws most)
 
 -- the totals of one fold more
 totals_more : (f : ℕ → Totals) (n : ℕ) → record {

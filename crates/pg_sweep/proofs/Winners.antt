@@ -10,7 +10,8 @@ use Rattle.std.proofs.lemmas.List.Folds.{list_all_at}
 use Rattle.std.proofs.lemmas.List.Sums.{list_all-from_AllPass, position_or_len_is}
 use Rattle.std.specs.List.{list_all, position_or_len}
 use Rattle.std.specs.Option.{option_map_or}
-use Rattle.pg_sweep.specs.Winners.{winner_of, IsWinner}
+use Rattle.pg_sweep.specs.Winners.{winner_of}
+use Rattle.pg_sweep.specs.Promises.{IsWinner}
 use Rattle.pg_sweep.specs.Inside.Least.{winner_from, first_least}
 
 -- the best of the costs so far, which are not none

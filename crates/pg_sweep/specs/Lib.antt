@@ -1,4 +1,5 @@
 pub mod Sweeps
 pub mod Winners
+pub mod Promises
 pub mod Files
 pub mod Inside

@@ -26,11 +26,8 @@ fold_totals s set fold = totals_by (source_of s.table (part_of s.folds fold true
 
 -- the sums of several totals
 abbrev pub total_of : List Totals → Totals
-total_of ts = record {
-  good = sum_by (λ (t : Totals). t.good) ts;
-  bad = sum_by (λ (t : Totals). t.bad) ts;
-  missed = sum_by (λ (t : Totals). t.missed) ts;
-}
+total_of ts = let sum : (Totals → ℕ) → ℕ = λ f. sum_by f ts in
+    record { good = sum (λ t. t.good); bad = sum (λ t. t.bad); missed = sum (λ t. t.missed) }
 
 -- the row of a set: the totals of all folds together, and what they cost at these prices
 abbrev pub set_row : Terms → ℕ → ℕ → Parameters → SweepRow

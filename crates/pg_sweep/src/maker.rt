@@ -3,7 +3,8 @@ use pg_patterns::PatternSet;
 use pg_select::Engine;
 use std::alloc::{AllocError, Global};
 
-/// Makes the engines of a sweep, one after the other.
+/// Makes the engines of a sweep, one after the other. So this crate knows no engine and no
+/// observer: a maker may tell which run begins.
 pub trait Maker {
     ghost use Rattle.std.specs.Prelude.{◌≡◌, IfOk};
     ghost use Rattle.pg_types.specs.Inside.Signs.{IsSignCount};

@@ -46,7 +46,8 @@ fn sweep_value(alloc: Global, folds: u8, sweep: &Sweep) -> Result<Value, AllocEr
 }
 
 /// The file of a sweep with this number of folds: one JSON object in its compact form, and a line
-/// feed.
+/// feed. Its definition is the library's own of the compact text of a JSON value, so there is no
+/// second rule for how JSON is written.
 pub fn sweep_text(alloc: Global, folds: u8, sweep: &Sweep) -> Result<Vec<u8>, AllocError>
     ensures { IfOk result (λ text. text.items ≡ sweep_file folds sweep.now.rows sweep.now.winner) }
 {

@@ -11,12 +11,13 @@ use Rattle.pg_types.specs.declared.refusals.Refusal.{Refusal}
 use Rattle.pg_translate.specs.declared.items.Place.{Place}
 use Rattle.pg_translate.specs.declared.items.Place.TheVariants.{Dictionary, Patterns}
 use Rattle.pg_translate.specs.Alphabets.{Alphabet}
-use Rattle.pg_translate.specs.Spellings.{is_space, may_begin}
+use Rattle.pg_translate.specs.Spellings.{is_space}
+use Rattle.pg_translate.specs.Inside.spellings.Beginnings.{may_begin}
 use Rattle.pg_translate.specs.Inside.spellings.Beginnings.{begins_well}
 use Rattle.pg_translate.specs.Inside.spellings.Members.{IsAmong}
 use Rattle.std.specs.Char.{is_ascii_digit}
-use Rattle.pg_translate.specs.Tables.{check, mark_fails}
-use Rattle.pg_translate.specs.Inside.tables.Checks.{mark_checks_from, mark_checks}
+use Rattle.pg_translate.specs.Tables.{check}
+use Rattle.pg_translate.specs.Inside.tables.Checks.{mark_checks_from, mark_checks, mark_fails}
 use Rattle.pg_translate.specs.Tokens.{Token, Letter, Digit, Weight, Marked, Edge, letter_at, weight_at, mark_at, item_at}
 use Rattle.pg_translate.specs.Inside.items.Items.{IsItem, IsWeight, IsMark, decimal_value}
 use Rattle.pg_translate.specs.Inside.tables.Rules.{KeepsRules}

@@ -16,7 +16,8 @@ use Rattle.pg_translate.specs.Tokens.{Token, Letter, Digit, Weight, Marked, Edge
 use Rattle.pg_translate.specs.Cuts.{PlacedItem, Cut, cut, cut_from, with_item, tokens_of}
 use Rattle.pg_translate.specs.Gaps.{sign_of, signs_of}
 use Rattle.pg_translate.specs.Inside.items.Items.{IsItem, text_of_items, tokens_in}
-use Rattle.pg_translate.specs.LineRefusals.{sign_columns, line_refusal}
+use Rattle.pg_translate.specs.LineRefusals.{line_refusal}
+use Rattle.pg_translate.specs.Inside.items.Refusing.{sign_columns}
 use Rattle.pg_translate.specs.Inside.items.Refusing.{signs_max, long_kind}
 use Rattle.pg_translate.specs.Inside.items.Refusing.{of_line, sign_column, stop_refusal}
 use Rattle.pg_translate.specs.Inside.tables.Rules.{KeepsRules}

@@ -10,7 +10,7 @@ use Rattle.pg_translate.specs.Cuts.{Cut, cut_from, with_item}
 use Rattle.pg_translate.specs.Inside.items.Rests.{cut_rest}
 use Rattle.pg_translate.specs.Inside.items.Answers.{HasItem}
 use Rattle.pg_translate.specs.Gaps.{sign_of}
-use Rattle.pg_translate.specs.LineRefusals.{sign_columns}
+use Rattle.pg_translate.specs.Inside.items.Refusing.{sign_columns}
 use Rattle.pg_translate.specs.Inside.items.Refusing.{long_kind}
 use Rattle.pg_types.specs.ValuesOrRefusals.{refusal_at}
 use Rattle.pg_translate.specs.Inside.items.Refusing.{stop_refusal, refusal_with_room}

@@ -2,7 +2,8 @@
 use Rattle.std.proofs.Common.{◌≡◌, ℕ, ◌-◌, ◌==◌, Bool, true, false, cond, not, ◌||◌, List, [], ◌∷◌, ◌++◌, length, map, take, slice_index, zero, suc, refl, ap, ◌∙◌}
 use Rattle.std.specs.List.{list_all, list_any, onto_first}
 use Rattle.std.proofs.lemmas.Bool.{and_parts, and_from, or_parts, not-true}
-use Rattle.pg_types.specs.Lines.{pieces_at, is_line_feed, without_cr, lines}
+use Rattle.pg_types.specs.Lines.{pieces_at, is_line_feed, lines}
+use Rattle.pg_types.specs.Inside.reading.LineEnds.{without_cr}
 use Rattle.pg_translate.specs.Spellings.{is_space}
 
 -- the pieces of a text without a line feed, and what stands behind its line feed

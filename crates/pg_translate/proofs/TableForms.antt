@@ -1,7 +1,8 @@
 -- The checks of a translate file, as its reader goes through them, are those of its table.
 use Rattle.std.proofs.Common.{◌≡◌, ℕ, ◌+◌, ◌-◌, ◌*◌, ◌≤◌, ◌==◌, nat_lt, Bool, true, false, not, ◌&&◌, ◌||◌, List, [], ◌∷◌, ◌++◌}
 use Rattle.std.proofs.Common.{length, map, flat_map, filter, take, drop, get_or, Some, None, refl, sym, ap, ap₂, ◌∙◌, arith, suc, zero}
-use Rattle.std.specs.Prelude.{if◌then◌else◌, unwrap_or, slice_index}
+use Rattle.std.specs.Prelude.{if◌then◌else◌, is_some, unwrap_or, Option, slice_index}
+use Rattle.std.specs.Option.{option_map_or}
 use Rattle.std.specs.List.{enumerate_from, suffix_len, take_while}
 use Rattle.std.specs.Char.{is_ascii_digit}
 use Rattle.std.proofs.Math.Seq.{take-append_seam}
@@ -16,9 +17,9 @@ use Rattle.pg_types.specs.Inside.reading.Parts.{first_refusal}
 use Rattle.pg_translate.specs.declared.head.TheConstants.{DEFAULT_LEFT, DEFAULT_RIGHT, DEFAULT_ERROR, DEFAULT_MISSED, DEFAULT_FOUND, DEFAULT_DONT_CARE}
 use Rattle.pg_translate.specs.Alphabets.{Alphabet}
 use Rattle.pg_translate.specs.Spellings.{is_space}
-use Rattle.pg_translate.specs.Tables.{check, in_column, minimum_at, is_blank_at, minimum_fails, minimum, mark_in, marks_of, mark_fails}
-use Rattle.pg_translate.specs.Tables.{head_checks, line_pieces, ListedSpelling, spellings_at, spellings_of, spelling_with_sign, spelling_check, spelling_checks, alphabet_of}
-use Rattle.pg_translate.specs.Inside.tables.Checks.{pair_at, pair_value, pair_fails, pair_minimum, mark_checks, head_checks_by_pairs, without_blanks}
+use Rattle.pg_translate.specs.Tables.{check, in_column, minimum_at, minimum_fails, marks_of}
+use Rattle.pg_translate.specs.Tables.{head_checks, ListedSpelling, spellings_at, spellings_of, spelling_with_sign, spelling_check, alphabet_of}
+use Rattle.pg_translate.specs.Inside.tables.Checks.{pair_at, is_blank_pair, pair_value, pair_fails, pair_minimum, mark_in, mark_fails, mark_checks, head_checks_by_pairs, without_blanks}
 use Rattle.pg_translate.specs.Inside.tables.Checks.{before_empty, delimited_pieces, trimmed_pieces, with_line_spellings, spellings_from, spelling_checks_from, alphabet_by_lines}
 use Rattle.pg_translate.proofs.LetterLines.{trim_more, trim_end}
 
@@ -43,14 +44,40 @@ pair_by a b true false at bt = rw (eqb-true a 32 at, bt) (one_digit (is_ascii_di
 pair_by a b false true at bt = rw (eqb-true b 32 bt, at) (one_digit (is_ascii_digit a) (a - 48) (0 * 10 + (a - 48)) (omega arith))
 pair_by a b false false at bt = rw (at, bt) (two_digits (is_ascii_digit a) (is_ascii_digit b) ((a - 48) * 10 + (b - 48)) ((0 * 10 + (a - 48)) * 10 + (b - 48)) (a - 48) (b - 48) (omega arith))
 
-pair_as : (head : List ℕ) (column : ℕ) → pair_value (in_column head column) (in_column head (column + 1)) ≡ minimum_at head column
-pair_as head column = pair_by (in_column head column) (in_column head (column + 1)) (in_column head column == 32) (in_column head (column + 1) == 32) refl refl
+-- a minimum is there unless both bytes are blank
+there_by : (a b : ℕ) (blank_a blank_b : Bool) → (a == 32) ≡ blank_a → (b == 32) ≡ blank_b
+    → (if has_byte (filter is_dark (a ∷ b ∷ [])) then Some (unwrap_or (number (filter is_dark (a ∷ b ∷ []))) 0) else None)
+    ≡ (if a == 32 && b == 32 then None else Some (unwrap_or (number (filter is_dark (a ∷ b ∷ []))) 0))
+there_by a b true true at bt = rw (at, bt) refl
+there_by a b true false at bt = rw (at, bt) refl
+there_by a b false true at bt = rw (at, bt) refl
+there_by a b false false at bt = rw (at, bt) refl
 
-pub minimum_as : (head : List ℕ) (column default : ℕ) → pair_minimum (pair_at head column) default ≡ minimum head column default
-minimum_as head column default = ap (λ (n : ℕ). if is_blank_at head column then default else n) (pair_as head column)
+pair_as : (head : List ℕ) (column : ℕ) → (if is_blank_pair (pair_at head column) then None else Some (pair_value (in_column head column) (in_column head (column + 1)))) ≡ minimum_at head column
+pair_as head column =
+    let a = in_column head column in
+    let b = in_column head (column + 1) in
+    ap (λ (n : ℕ). let o : Option ℕ = if a == 32 && b == 32 then None else Some n in o) (pair_by a b (a == 32) (b == 32) refl refl) ∙ sym (there_by a b (a == 32) (b == 32) refl refl)
+
+default_if : (blank : Bool) (n default : ℕ) → (if blank then default else n) ≡ unwrap_or (if blank then None else Some n) default
+default_if true n default = refl
+default_if false n default = refl
+
+pub minimum_as : (head : List ℕ) (column default : ℕ) → pair_minimum (pair_at head column) default ≡ unwrap_or (minimum_at head column) default
+minimum_as head column default =
+    default_if (is_blank_pair (pair_at head column)) (pair_value (in_column head column) (in_column head (column + 1))) default
+    ∙ ap (λ (o : Option ℕ). unwrap_or o default) (pair_as head column)
+
+fails_if : (blank other : Bool) (n m : ℕ) → (if blank then not other else n == 0) ≡ option_map_or (λ k. k == 0) (if blank then None else Some n) (is_some (if other then None else Some m))
+fails_if true true n m = refl
+fails_if true false n m = refl
+fails_if false other n m = refl
 
 fails_as : (head : List ℕ) (column other : ℕ) → pair_fails (pair_at head column) (pair_at head other) ≡ minimum_fails head column other
-fails_as head column other = ap (λ (n : ℕ). if is_blank_at head column then not (is_blank_at head other) else n == 0) (pair_as head column)
+fails_as head column other =
+    fails_if (is_blank_pair (pair_at head column)) (is_blank_pair (pair_at head other)) (pair_value (in_column head column) (in_column head (column + 1)))
+    (pair_value (in_column head other) (in_column head (other + 1)))
+    ∙ ap₂ (λ (here there : Option ℕ). option_map_or (λ k. k == 0) here (is_some there)) (pair_as head column) (pair_as head other)
 
 -- the marks before one, in either order
 swap_two : (x y : Bool) → (x || (y || false)) ≡ (y || (x || false))
@@ -112,6 +139,12 @@ trim_as line =
     let whole : take (length line) line ≡ line = take_all (length line) line (omega arith) in
     ap without_blanks (sym whole) ∙ trim_upto line (length line) (omega arith) ∙ ap (λ (text : List ℕ). take (length line - blank_end text) line) whole
 
+-- the spellings of a letter line: the pieces that its first byte parts, up to an empty one
+abbrev line_pieces : List ℕ → List (List ℕ)
+line_pieces line =
+    let text = take (length line - blank_end line) line in
+    take_while has_byte (pieces_at (λ b. b == slice_index text 0) (drop 1 text))
+
 -- the pieces before the first empty one
 before_as : (pieces : List (List ℕ)) → before_empty pieces ≡ take_while has_byte pieces
 before_as [] = refl
@@ -147,7 +180,10 @@ lines_as (text ∷ texts) line letter =
 pub spellings_as : (texts : List (List ℕ)) → spellings_from 2 1 texts ≡ spellings_of texts
 spellings_as texts = lines_as texts 2 1
 
--- the checks of the spellings, each beside those before it
+-- the checks of the letter lines, spelling by spelling, each beside those before it
+abbrev pub spelling_checks : List ℕ → List ListedSpelling → List Refusal
+spelling_checks marks all = flat_map (λ s. spelling_check marks (map spelling_with_sign (take s.0 all)) s.1) (enumerate_from 0 all)
+
 checks_behind : (marks : List ℕ) (all done later : List ListedSpelling) → done ++ later ≡ all → spelling_checks_from marks (map spelling_with_sign done) later
     ≡ flat_map (λ s. spelling_check marks (map spelling_with_sign (take s.0 all)) s.1) (enumerate_from (length done) later)
 checks_behind marks all done [] whole = refl

@@ -16,9 +16,9 @@ use Rattle.pg_types.specs.Inside.reading.Answers.{Fails}
 use Rattle.pg_translate.specs.declared.head.Head.{Head}
 use Rattle.pg_translate.specs.declared.index.Index.{Index}
 use Rattle.pg_translate.specs.Spellings.{is_spelling, clash}
-use Rattle.pg_translate.specs.Tables.{ListedSpelling, check, spelling_with_sign, spelling_check, spelling_checks, spellings_of, head_checks, alphabet_of, marks_of, table, table_of}
+use Rattle.pg_translate.specs.Tables.{ListedSpelling, check, spelling_with_sign, spelling_check, spellings_of, head_checks, alphabet_of, marks_of, table, table_of}
 use Rattle.pg_translate.specs.Inside.tables.Checks.{first_failure, spelling_checks_from, spellings_from, head_checks_by_pairs, alphabet_by_lines}
-use Rattle.pg_translate.proofs.TableForms.{read_as}
+use Rattle.pg_translate.proofs.TableForms.{read_as, spelling_checks}
 use Rattle.pg_translate.specs.Inside.tables.Heads.{IsHead, IsSoundHead, head_marks}
 use Rattle.pg_translate.specs.Inside.tables.SoundTables.{IsTable}
 use Rattle.pg_translate.specs.Inside.spellings.Fronts.{IsIndex, pairs}

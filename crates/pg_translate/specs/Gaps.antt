@@ -1,5 +1,5 @@
 -- The signs of a line, and its gaps: the items before, between and behind the signs.
-use Rattle.std.specs.Prelude.{ℕ, ◌-◌, List, [], ◌∷◌, length, slice_range, Option, None, Some}
+use Rattle.std.specs.Prelude.{ℕ, List, [], ◌∷◌, Option, None, Some}
 use Rattle.std.specs.Option.{is_some}
 use Rattle.std.specs.List.{filter_map, slice_split}
 use Rattle.pg_types.specs.declared.limits.TheConstants.{EDGE}
@@ -21,30 +21,17 @@ signs_of items = filter_map sign_of items
 abbrev pub gaps : List Token → List (List Token)
 gaps items = slice_split (λ item. is_some (sign_of item)) items
 
--- the gaps between two signs: all but the first and the last
-abbrev pub inner_gaps : List Token → List (List Token)
-inner_gaps items = slice_range (gaps items) 1 (length (gaps items) - 1)
-
--- the number that an item is: a digit or a weight in braces
-abbrev pub number_of : Token → Option ℕ
-number_of (Digit digit) = Some digit
-number_of (Weight weight) = Some weight
-number_of item = None
-
--- the mark that an item is
-abbrev pub mark_of : Token → Option Mark
-mark_of (Marked mark) = Some mark
-mark_of item = None
-
 -- the last of a list, else what is given
 abbrev pub last_else : {X : Type 0} → X → List X → X
 last_else given [] = given
 last_else given (x ∷ xs) = last_else x xs
 
--- the last number of a gap, else what is given
+-- the last number of a gap, a digit or a weight in braces, else what is given
 abbrev pub last_number : ℕ → List Token → ℕ
-last_number given gap = last_else given (filter_map number_of gap)
+last_number given gap = last_else given (filter_map
+    (λ item. elim item [ Digit n ↦ Some n | Weight n ↦ Some n | other ↦ None ]) gap)
 
 -- the last mark of a gap; nothing where there is none
 abbrev pub last_mark : List Token → Mark
-last_mark gap = last_else Nothing (filter_map mark_of gap)
+last_mark gap = last_else Nothing
+    (filter_map (λ item. elim item [ Marked mark ↦ Some mark | other ↦ None ]) gap)

@@ -25,14 +25,11 @@ abbrev pub bad_kind : Place → List ℕ → Kind
 bad_kind Dictionary text = if slice_index text 0 == 123 then BadWeight else DictionaryCharacter
 bad_kind Patterns text = PatternCharacter
 
--- the columns of the signs of a line
-abbrev pub sign_columns : Cut → List ℕ
-sign_columns c = filter_map (λ i. option_map (λ _. i.column) (sign_of i.token)) c.items
-
 -- the refusal of a line: the sign too many, else where its cut stops before the line's end
 abbrev pub line_refusal : Place → ℕ → Cut → Option Refusal
 line_refusal place line c = option_or
-    (option_map (refusal_at line (limit place).1) (slice_get (sign_columns c) (limit place).0))
+    (option_map (refusal_at line (limit place).1) (slice_get (filter_map
+    (λ i. option_map (λ _. i.column) (sign_of i.token)) c.items) (limit place).0))
     (if is_ended c.rest then None else Some (refusal_at line (bad_kind place c.rest) c.column))
 
 -- what the items of lines give, or the refusal of the first line that has one

@@ -9,15 +9,11 @@ use Rattle.pg_translate.specs.declared.spellings.TheConstants.{SPELLING_MAX}
 abbrev pub is_space : ℕ → Bool
 is_space b = b == 32 || b == 9 || b == 10 || b == 13
 
--- whether a spelling may begin with a byte: it is no digit, dot, `{` or mark
-abbrev pub may_begin : List ℕ → ℕ → Bool
-may_begin marks b = not
-    (is_ascii_digit b || b == 46 || b == 123 || list_any (λ mark. mark == b) marks)
-
--- whether a text may be a spelling beside these marks
+-- whether a text may be a spelling beside these marks: it begins with no digit, dot, `{` or mark
 abbrev pub is_spelling : List ℕ → List ℕ → Bool
-is_spelling marks text = nat_le (length text) SPELLING_MAX
-    && (has_byte text && may_begin marks (slice_index text 0)) && not (list_any is_space text)
+is_spelling marks text = nat_le (length text) SPELLING_MAX && (has_byte text
+    && (let b = slice_index text 0 in not (is_ascii_digit b || b == 46 || b == 123
+    || list_any (λ mark. mark == b) marks))) && not (list_any is_space text)
 
 -- two spellings clash where one begins with the other, unless they are equal and of one letter
 abbrev pub clash : ℕ × List ℕ → ℕ × List ℕ → Bool

@@ -1,5 +1,6 @@
 -- The table that a translate file gives, or its refusal.
-use Rattle.std.specs.Prelude.{ℕ, ◌+◌, ◌-◌, ◌==◌, nat_lt, Bool, not, ◌&&◌, ◌||◌, if◌then◌else◌, List, [], ◌∷◌, ◌++◌, length, map, flat_map, filter, take, drop, slice_get, slice_index, slice_index_or, unwrap_or, Result, Ok}
+use Rattle.std.specs.Prelude.{ℕ, ◌+◌, ◌-◌, ◌==◌, nat_lt, Bool, not, ◌||◌, if◌then◌else◌, List, [], ◌∷◌, ◌++◌, length, map, flat_map, filter, take, drop, slice_get, slice_index, slice_index_or, is_some, unwrap_or, Option, None, Some, Result, Ok}
+use Rattle.std.specs.Option.{option_map_or}
 use Rattle.std.specs.List.{list_any, range_with_len, enumerate_from, suffix_len, take_while}
 use Rattle.pg_types.specs.declared.limits.TheConstants.{FILE_MAX, SIGNS_MAX}
 use Rattle.pg_types.specs.declared.refusals.Kind.{Kind}
@@ -21,49 +22,29 @@ check fails kind line column = if fails then refusal_at line kind column ∷ [] 
 abbrev pub in_column : List ℕ → ℕ → ℕ
 in_column head column = slice_index_or head (column - 1) 32
 
--- the minimum that begins at a column: the number in two bytes; 0 where they write none
-abbrev pub minimum_at : List ℕ → ℕ → ℕ
-minimum_at head column = unwrap_or (number (filter (λ b. not (b == 32))
-    (in_column head column ∷ in_column head (column + 1) ∷ []))) 0
+-- the minimum in the two bytes from a column on: none where they are blank, 0 where they write none
+abbrev pub minimum_at : List ℕ → ℕ → Option ℕ
+minimum_at head column = let text = filter (λ b. not (b == 32))
+    (in_column head column ∷ in_column head (column + 1) ∷ []) in
+    if has_byte text then Some (unwrap_or (number text) 0) else None
 
--- whether two blanks begin at a column
-abbrev pub is_blank_at : List ℕ → ℕ → Bool
-is_blank_at head column = in_column head column == 32 && in_column head (column + 1) == 32
-
--- a minimum fails if it alone is blank, or if it is not blank and its bytes are no number from 1 on
+-- a minimum fails where it alone is blank, or where its bytes write no number from 1 on
 abbrev pub minimum_fails : List ℕ → ℕ → ℕ → Bool
-minimum_fails head column other = if is_blank_at head column then not (is_blank_at head other)
-    else minimum_at head column == 0
+minimum_fails head column other =
+    option_map_or (λ n. n == 0) (minimum_at head column) (is_some (minimum_at head other))
 
--- the minimum that begins at a column; two blanks mean a default
-abbrev pub minimum : List ℕ → ℕ → ℕ → ℕ
-minimum head column default = if is_blank_at head column then default else minimum_at head column
-
--- the mark byte in a column; a blank means a default
-abbrev pub mark_in : List ℕ → ℕ → ℕ → ℕ
-mark_in head column default = if in_column head column == 32 then default else in_column head column
-
--- the bytes for an erroneous, a missed, a found and a don't-care position
+-- the bytes for an erroneous, a missed, a found and a don't-care position; a blank means a default
 abbrev pub marks_of : List ℕ → List ℕ
-marks_of head = mark_in head 5 DEFAULT_ERROR ∷ mark_in head 6 DEFAULT_MISSED
-    ∷ mark_in head 7 DEFAULT_FOUND ∷ mark_in head 8 DEFAULT_DONT_CARE ∷ []
+marks_of head = map (λ m. if in_column head m.0 == 32 then m.1 else in_column head m.0)
+    (enumerate_from 5 (DEFAULT_ERROR ∷ DEFAULT_MISSED ∷ DEFAULT_FOUND ∷ DEFAULT_DONT_CARE ∷ []))
 
--- a mark fails where it is a digit, a blank, TAB, LF, CR or `{`, or equals one before it
-abbrev pub mark_fails : List ℕ → ℕ → Bool
-mark_fails earlier mark = is_ascii_digit mark || is_space mark
-    || mark == 123 || list_any (λ other. other == mark) earlier
-
--- the checks of the head: the left and the right minimum, and each mark beside those before it
+-- the checks of the head: the left and the right minimum, and each mark, which fails where it is a
+-- digit, a blank, TAB, LF, CR or `{`, or equals one before it
 abbrev pub head_checks : List ℕ → List Refusal
 head_checks head = check (minimum_fails head 1 3) BadMinima 1 1
-    ++ check (minimum_fails head 3 1) BadMinima 1 3 ++ flat_map
-    (λ m. check (mark_fails (take m.0 (marks_of head)) m.1) BadMark 1 (m.0 + 5))
-    (enumerate_from 0 (marks_of head))
-
--- the spellings of a letter line: the pieces that its first byte parts, up to an empty one
-abbrev pub line_pieces : List ℕ → List (List ℕ)
-line_pieces line = let text = take (length line - suffix_len (λ b. b == 32) line) line in
-    take_while has_byte (pieces_at (λ b. b == slice_index text 0) (drop 1 text))
+    ++ check (minimum_fails head 3 1) BadMinima 1 3 ++ flat_map (λ m. check
+    (is_ascii_digit m.1 || is_space m.1 || m.1 == 123 || list_any (λ other. other == m.1)
+    (take m.0 (marks_of head))) BadMark 1 (m.0 + 5)) (enumerate_from 0 (marks_of head))
 
 -- a spelling of the file: where it stands, and the number of its letter
 pub record ListedSpelling : Type 0 where
@@ -79,10 +60,13 @@ spellings_at line column letter (piece ∷ pieces) =
     record { line = line; column = column; letter = letter; text = piece } ∷ spellings_at line
     (column + (length piece + 1)) letter pieces
 
--- the spellings of the lines from the second on; lines that are not skipped have a letter each
+-- the spellings of the lines from the second on: the pieces that the first byte of a line parts, up
+-- to an empty one. Lines that are not skipped have a letter each
 abbrev pub spellings_of : List (List ℕ) → List ListedSpelling
 spellings_of texts = flat_map (λ l. spellings_at l.1.0 2 l.0 l.1.1) (enumerate_from 1
-    (filter (λ l. nat_lt 0 (length l.1)) (enumerate_from 2 (map line_pieces texts))))
+    (filter (λ l. nat_lt 0 (length l.1)) (enumerate_from 2 (map (λ line.
+    let text = take (length line - suffix_len (λ b. b == 32) line) line in
+    take_while has_byte (pieces_at (λ b. b == slice_index text 0) (drop 1 text))) texts))))
 
 -- a spelling with the sign of its letter; sign 1 is the edge
 abbrev pub spelling_with_sign : ListedSpelling → ℕ × List ℕ
@@ -94,21 +78,19 @@ spelling_check marks earlier s = check (nat_lt (SIGNS_MAX - 1) s.letter) TooMany
     ++ (check (not (is_spelling marks s.text)) BadSpelling s.line s.column
     ++ check (list_any (clash (spelling_with_sign s)) earlier) SpellingClash s.line s.column)
 
--- the checks of the letter lines, spelling by spelling, each beside those before it
-abbrev pub spelling_checks : List ℕ → List ListedSpelling → List Refusal
-spelling_checks marks all = flat_map (λ s. spelling_check marks
-    (map spelling_with_sign (take s.0 all)) s.1) (enumerate_from 0 all)
-
--- all checks of a translate file of some size, with this head and these letter lines, in order
+-- all checks of a translate file of some size, with this head and these letter lines, in order: that
+-- of each spelling beside those before it
 abbrev pub checks : ℕ → List ℕ → List (List ℕ) → List Refusal
-checks size head letter_lines = check (nat_lt FILE_MAX size) TranslateTooLong 0 0
-    ++ (head_checks head ++ spelling_checks (marks_of head) (spellings_of letter_lines))
+checks size head letter_lines = let all = spellings_of letter_lines in
+    check (nat_lt FILE_MAX size) TranslateTooLong 0 0 ++ (head_checks head ++ flat_map
+    (λ s. spelling_check (marks_of head) (map spelling_with_sign (take s.0 all)) s.1)
+    (enumerate_from 0 all))
 
 -- the table that a head and letter lines say
 abbrev pub alphabet_of : List ℕ → List (List ℕ) → Alphabet
 alphabet_of head letter_lines = record {
-  left = minimum head 1 DEFAULT_LEFT;
-  right = minimum head 3 DEFAULT_RIGHT;
+  left = unwrap_or (minimum_at head 1) DEFAULT_LEFT;
+  right = unwrap_or (minimum_at head 3) DEFAULT_RIGHT;
   marks = marks_of head;
   spellings = map spelling_with_sign (spellings_of letter_lines);
 }

@@ -103,16 +103,17 @@ fn minimum(pair: (u8, u8), other: (u8, u8), default: u8) -> Option<u8>
 /// The mark byte in a column of the head; a blank means a default.
 fn mark_in(head: &[u8], column: usize, default: u8) -> u8
     requires { 0 < column }
-    ensures { result ≡ table.mark_in head.now column default }
+    ensures { result ≡ checks.mark_in head.now column default }
 {
     let byte = in_column(head, column);
     if byte == b' ' { default } else { byte }
 }
 
 /// Whether a byte may not be a mark: it is a digit, a blank, a TAB, an LF, a CR or `{`, or equals
-/// an earlier mark.
+/// an earlier mark. In a head a blank stands for a default, and no head holds an LF. Both are in
+/// the rule all the same, so that the rules of a table alone show that items end where lines do.
 fn mark_fails(earlier: &[u8], mark: u8) -> bool
-    ensures { result ≡ table.mark_fails earlier.now mark }
+    ensures { result ≡ checks.mark_fails earlier.now mark }
 {
     mark.is_ascii_digit() || is_space(mark) || mark == b'{' || earlier.contains(&mark)
 }

@@ -49,15 +49,15 @@ pub(crate) struct Spelling {
 /// The spellings of a table.
 #[derive(Drop)]
 pub(crate) struct Index {
-    /// All spellings, in the order of the file. Only contracts read them. Look-ups use the fields
-    /// below.
+    /// All spellings, in the order of the file. A spelling that is repeated for its letter stands
+    /// here twice. Only contracts read them. Look-ups use the fields below.
     spellings: Vec<Spelling>,
     /// The first spelling of each letter, in the order of signs.
     firsts: Vec<Text>,
     /// The prefixes of one byte, by that byte.
     heads: [Option<Front>; 256],
     /// The longer prefixes. The key is the number whose digits in base 256 are a 1 and then the
-    /// bytes.
+    /// bytes. Whether spellings can be chosen so that the map gets slow was not looked at.
     longer: HashMap<u128, Front>,
 }
 

@@ -26,6 +26,8 @@ pub(crate) fn refusal(kind: Kind, line: u32, column: u32) -> ReadingError
 }
 
 /// Whether a byte is a blank, a TAB, an LF or a CR, which no spelling holds and which is no mark.
+/// No line holds an LF. That it counts here too lets the text of a pattern file be read back line
+/// by line.
 pub(crate) fn is_space(byte: u8) -> bool
     ensures { result ≡ spelling.is_space byte }
 {
@@ -59,7 +61,8 @@ fn is_spelling(marks: &[u8], text: &[u8]) -> bool
 }
 
 /// Adds a spelling of the letter with this number to the index, unless one of its checks fails. The
-/// letter is the last of the index or a new one.
+/// letter is the last of the index or a new one. The number of letters is one of them, checked at
+/// each spelling: at the first one it fails first.
 fn add_spelling(
     index: &mut Index,
     marks: &[u8],

@@ -3,7 +3,8 @@ use Rattle.std.proofs.Common.{◌≡◌, ℕ, ◌+◌, ◌-◌, ◌<◌, ◌≤�
 use Rattle.std.proofs.lemmas.Bool.{cases_Bool, cases_eq, false≢true, or_cases, or_left, or_right, and_parts, and_from, eqb-true, eq-eqb, ne_eqb, leb-true}
 use Rattle.std.proofs.lemmas.List.Folds.{list_any-append}
 use Rattle.std.specs.List.{list_any, list_all}
-use Rattle.pg_types.specs.Placement.{Families, used_cells, top, is_used, is_base, fits_at, lowest_base, first_from, least_base}
+use Rattle.pg_types.specs.Placement.{Families, used_cells, top, is_used, first_from}
+use Rattle.pg_types.specs.Inside.PlacementSteps.{is_base, fits_at, lowest_base, least_base}
 use Rattle.pg_types.specs.declared.limits.TheConstants.{FEW_SIGNS, FAR_BELOW}
 use Rattle.pg_types.specs.Inside.Placing.{IsLeast, cells_of}
 

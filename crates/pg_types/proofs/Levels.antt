@@ -10,7 +10,8 @@ use Rattle.pg_types.specs.declared.refusals.Refusal.{Refusal}
 use Rattle.pg_types.specs.declared.refusals.Kind.TheVariants.{ParametersTooLong}
 use Rattle.pg_types.specs.ValuesOrRefusals.{refusal_at, unless}
 use Rattle.pg_types.specs.declared.parameters.LevelParams.{LevelParams}
-use Rattle.pg_types.specs.Parameters.{items, level_demands, level_of, level_items, number_at, demands, refusal_from, Parameters, parameters}
+use Rattle.pg_types.specs.Parameters.{items, level_of, level_items, number_at, demands, refusal_from, Parameters, parameters}
+use Rattle.pg_types.specs.Inside.reading.ItemSteps.{level_demands}
 use Rattle.pg_types.specs.Inside.reading.ItemSteps.{Demand, number_between, demands_of_levels, levels_of}
 
 -- what the level with the number i demands, and what it is

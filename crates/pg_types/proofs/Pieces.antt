@@ -4,7 +4,8 @@ use Rattle.std.specs.List.{position_or_len}
 use Rattle.std.proofs.lemmas.List.{take_rest, drop_all}
 use Rattle.std.proofs.lemmas.List.Sums.{position_or_len_is}
 use Rattle.std.proofs.lemmas.Bool.{false_from_ne_true}
-use Rattle.pg_types.specs.Lines.{pieces_at, is_line_feed, without_cr, lines}
+use Rattle.pg_types.specs.Lines.{pieces_at, is_line_feed, lines}
+use Rattle.pg_types.specs.Inside.reading.LineEnds.{without_cr}
 
 -- no byte below k passes the test
 abbrev pub NoneBelow : (ℕ → Bool) → List ℕ → ℕ → Type 0

@@ -1,7 +1,8 @@
 -- The layout step by step, and the cells of small tables, computed. In the first table the edge is sign 1, `a` 2, `b` 3 and
 -- `c` 4.
 use Rattle.std.proofs.Common.{◌≡◌, ℕ, [], ◌∷◌, Some, refl}
-use Rattle.pg_types.specs.Placement.{Families, lowest_base, root, enter, with_sign, kept_families, taken_count, top, base_of}
+use Rattle.pg_types.specs.Placement.{Families, root, enter, with_sign, kept_families, taken_count, top, base_of}
+use Rattle.pg_types.specs.Inside.PlacementSteps.{lowest_base}
 use Rattle.pg_types.specs.Inside.Placing.{cell_of, without_sign}
 use Rattle.pg_types.specs.Tails.{tails}
 

@@ -4,7 +4,8 @@ use Rattle.std.specs.List.{position_or_len, position}
 use Rattle.std.proofs.lemmas.List.Sums.{prefix_len-le-length}
 use Rattle.std.proofs.lemmas.Bool.{cases_Bool, eqb-true}
 use Rattle.pg_types.specs.Lines.{pieces_at}
-use Rattle.pg_types.specs.Parameters.{items, is_separator, has_byte}
+use Rattle.pg_types.specs.Parameters.{items, has_byte}
+use Rattle.pg_types.specs.Inside.reading.ItemSteps.{is_separator}
 
 -- where a search finds it, or the length
 pub unwrap_or-position : {X : Type 0} → (p : X → Bool) (xs : List X) (r : Option ℕ) → r ≡ position p xs → unwrap_or r (length xs) ≡ position_or_len p xs

@@ -2,6 +2,7 @@
 pub mod reading
 pub mod counting
 pub mod Limits
+pub mod PlacementSteps
 pub mod Placing
 pub mod Ranges
 pub mod Signs

@@ -12,11 +12,7 @@ pieces_at test (b ∷ bs) = if test b then [] ∷ pieces_at test bs
 abbrev pub is_line_feed : ℕ → Bool
 is_line_feed b = b == 10
 
--- a line without the one CR at its end
-abbrev pub without_cr : List ℕ → List ℕ
-without_cr line = if slice_index line (length line - 1) == 13 then take (length line - 1) line
-    else line
-
--- the lines of a file
+-- the lines of a file, each without the one CR at its end
 abbrev pub lines : List ℕ → List (List ℕ)
-lines bytes = map without_cr (pieces_at is_line_feed bytes)
+lines bytes = map (λ line. if slice_index line (length line - 1) == 13
+    then take (length line - 1) line else line) (pieces_at is_line_feed bytes)

@@ -24,11 +24,6 @@ Families = List (List ℕ × Family)
 abbrev pub family_at : Families → List ℕ → Option Family
 family_at fs p = find (slice_cmp nat_cmp) p fs
 
--- the families but that with the prefix
-abbrev pub without_family : Families → List ℕ → Families
-without_family fs p = where_key (slice_cmp nat_cmp)
-    (λ q. not (eq_by_cmp (slice_cmp nat_cmp) p q)) fs
-
 -- the taken cells, family by family
 abbrev pub used_cells : Families → List ℕ
 used_cells fs = flat_map (λ e. map (λ s. e.1.base + s) e.1.signs) fs
@@ -45,32 +40,19 @@ top fs = fold max 0 (used_cells fs)
 abbrev pub is_used : Families → ℕ → Bool
 is_used fs cell = list_any (nat_eq cell) (used_cells fs)
 
--- whether some family has the base b
-abbrev pub is_base : Families → ℕ → Bool
-is_base fs b = list_any (λ e. nat_eq b e.1.base) fs
-
--- whether signs may stand at the base: no family has it, and their cells are free
-abbrev pub fits_at : Families → List ℕ → ℕ → Bool
-fits_at fs signs b = not (is_base fs b) && list_all (λ s. not (is_used fs (b + s))) signs
-
--- the lowest base tried for so many signs, in a table of n signs; t is the greatest taken cell
-abbrev pub lowest_base : ℕ → ℕ → ℕ → ℕ
-lowest_base n count t = if nat_le count FEW_SIGNS then 1 else max 1 (t - max FAR_BELOW n)
-
 -- the first of b, b + 1 and so on that meets the test; after so many that fail, the next one
 abbrev pub first_from : (ℕ → Bool) → ℕ → ℕ → ℕ
 first_from test zero b = b
 first_from test (suc more) b = elim (test b) [ true ↦ b | false ↦ first_from test more (b + 1) ]
 
--- the least base, from the lowest on, at which the signs may stand; past the top they always may,
--- where no family is empty: the law is in proofs/LeastBase
-abbrev pub least_base : (ℕ → ℕ → ℕ) → Families → List ℕ → ℕ
-least_base lowest fs signs = first_from (fits_at fs signs) (top fs) (lowest (length signs) (top fs))
-
--- the families with one more, placed at the least base
+-- the families with one more, at the least base, from the lowest on, that no family has and that
+-- leaves its signs free cells; past the top each does, where no family is empty: the law is in
+-- proofs/LeastBase
 abbrev pub with_placed_family : (ℕ → ℕ → ℕ) → Families → List ℕ → List ℕ → Families
-with_placed_family lowest fs p signs = put (slice_cmp nat_cmp) p
-    (record { base = least_base lowest fs signs; signs = signs }) fs
+with_placed_family lowest fs p signs = let base = first_from (λ b.
+    not (list_any (λ e. nat_eq b e.1.base) fs) && list_all (λ s. not (is_used fs (b + s))) signs)
+    (top fs) (lowest (length signs) (top fs)) in
+    put (slice_cmp nat_cmp) p (record { base = base; signs = signs }) fs
 
 -- the signs, in rising order, with s
 abbrev pub with_one_sign : ℕ → List ℕ → List ℕ
@@ -83,10 +65,10 @@ with_one_sign s (x ∷ xs) = if nat_lt s x then s ∷ x ∷ xs
 unfoldable pub with_sign : (ℕ → ℕ → ℕ) → Families → List ℕ → ℕ → Families
 with_sign lowest fs p s = elim (family_at fs p) [
   | None ↦ with_placed_family lowest fs p (s ∷ [])
-  | Some f ↦ elim (is_used fs (f.base + s)) [
-    | false ↦ put (slice_cmp nat_cmp) p
-        (record { base = f.base; signs = with_one_sign s f.signs }) fs
-    | true ↦ with_placed_family lowest (without_family fs p) p (with_one_sign s f.signs)
+  | Some f ↦ let signs = with_one_sign s f.signs in elim (is_used fs (f.base + s)) [
+    | false ↦ put (slice_cmp nat_cmp) p (record { base = f.base; signs = signs }) fs
+    | true ↦ with_placed_family lowest
+        (where_key (slice_cmp nat_cmp) (λ q. not (eq_by_cmp (slice_cmp nat_cmp) p q)) fs) p signs
   ]
 ]
 
@@ -112,14 +94,12 @@ enter_after lowest fs p [] = fs
 enter_after lowest fs p (s ∷ q) = enter_after lowest
     (elim (cell_in fs p s) [ Some cell ↦ fs | None ↦ with_sign lowest fs p s ]) (p ++ s ∷ []) q
 
--- the families after the string is entered; its first sign has a cell in the root
-abbrev pub enter_by : (ℕ → ℕ → ℕ) → Families → List ℕ → Families
-enter_by lowest fs [] = fs
-enter_by lowest fs (s ∷ q) = enter_after lowest fs (s ∷ []) q
-
--- the families of patterns after the string is entered
+-- the families of patterns after the string is entered; its first sign has a cell in the root. The
+-- lowest base tried is 1 for few signs, and else lies this far below the greatest taken cell
 abbrev pub enter : ℕ → Families → List ℕ → Families
-enter n fs q = enter_by (lowest_base n) fs q
+enter n fs [] = fs
+enter n fs (s ∷ q) = enter_after (λ count t. if nat_le count FEW_SIGNS then 1
+    else max 1 (t - max FAR_BELOW n)) fs (s ∷ []) q
 
 -- the families of patterns after the strings are entered in their order, from the root alone
 abbrev pub entered_families : ℕ → List (List ℕ) → Families
@@ -129,13 +109,11 @@ entered_families n strings = fold (enter n) (root n) strings
 abbrev pub keeps_cell : List (List ℕ) → List ℕ → Bool
 keeps_cell strings q = nat_le (length q) 1 || list_any (λ t. starts_with nat_eq t q) strings
 
--- a family with the signs whose strings pass the test, or none where no sign does
-abbrev pub kept_family : (List ℕ → Bool) → List ℕ × Family → Families
-kept_family keep e = elim (filter (λ s. keep (e.0 ++ s ∷ [])) e.1.signs) [
-  | [] ↦ []
-  | x ∷ xs ↦ (e.0, record { base = e.1.base; signs = x ∷ xs }) ∷ []
-]
-
--- the families at a level's end, where these are the strings of the patterns
+-- the families at a level's end, where these are the strings of the patterns: each with the signs
+-- whose strings keep their cells, and none where no sign does
 abbrev pub kept_families : List (List ℕ) → Families → Families
-kept_families strings fs = flat_map (kept_family (keeps_cell strings)) fs
+kept_families strings fs = flat_map (λ e.
+    elim (filter (λ s. keeps_cell strings (e.0 ++ s ∷ [])) e.1.signs) [
+      | [] ↦ []
+      | x ∷ xs ↦ (e.0, record { base = e.1.base; signs = x ∷ xs }) ∷ []
+    ]) fs

@@ -2,8 +2,8 @@
 ghost use Rattle.std.specs.Prelude.{◌≡◌, ◌<◌, ◌≤◌, ◌+◌, ◌++◌, ◌∷◌, [], List, length, drop, min, option_map, IfOk, OnOk, None, Some, IfErr, IfSome, MatchOption, not, position, ◌-◌, nat_lt, slice_index};
 ghost use Rattle.std.specs.List.{position_or_len};
 ghost use Rattle.pg_types.specs.ValuesOrRefusals.{refusal_at};
-ghost use Rattle.pg_types.specs.Inside.reading.ItemSteps.{Demand, number_between, Meets, Misses};
-ghost use Rattle.pg_types.specs.Parameters.{items, is_separator as is_separator_byte, number, number_at, level_demands, level_of, refusal_from, surplus, is_answer as is_answer_item};
+ghost use Rattle.pg_types.specs.Inside.reading.ItemSteps.{Demand, number_between, Meets, Misses, is_separator as is_separator_byte, level_demands};
+ghost use Rattle.pg_types.specs.Parameters.{items, number, number_at, level_of, refusal_from, surplus, is_answer as is_answer_item};
 ghost use Rattle.pg_types.specs.Inside.Ranges.{IsLevel};
 
 use crate::limits::{COST_MAX, ITEMS_MAX, LENGTH_MAX};

@@ -1,4 +1,5 @@
-//! Signs, weights, and the greatest numbers that the files and a run may have.
+//! Signs, weights, and the greatest numbers that the files and a run may have. They stand
+//! here since several crates use them. A limit of one rule stands in the crate of that rule.
 
 /// A sign: the edge of a word, or a letter of the table. A sign is at least 1.
 pub type Sign = u16;

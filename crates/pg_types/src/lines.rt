@@ -1,7 +1,8 @@
 //! The lines of a file.
 ghost use Rattle.std.specs.Prelude.{◌≡◌, ◌<◌, ◌≤◌, [], ◌∷◌, length, MatchOption, IfSome, slice_range, drop};
 ghost use Rattle.std.specs.List.{before_first, after_first};
-ghost use Rattle.pg_types.specs.Lines.{lines, is_line_feed, without_cr};
+ghost use Rattle.pg_types.specs.Lines.{lines, is_line_feed};
+ghost use Rattle.pg_types.specs.Inside.reading.LineEnds.{without_cr};
 
 use memchr::memchr;
 

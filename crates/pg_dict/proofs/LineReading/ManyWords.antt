@@ -13,7 +13,7 @@ use Rattle.pg_translate.specs.Gaps.{signs_of}
 use Rattle.pg_translate.specs.LineRefusals.{line_refusal}
 use Rattle.pg_translate.proofs.ManyLines.{refusals_from, items_of, line_before}
 use Rattle.pg_dict.specs.Word.{Word}
-use Rattle.pg_dict.specs.DictionaryWords.{word_of_items, words_if, line_words}
+use Rattle.pg_dict.specs.DictionaryWords.{word_of_items, line_words}
 use Rattle.pg_dict.specs.Inside.LineWords.{word_weight}
 use Rattle.pg_dict.specs.Inside.LineWords.{LineWord, word_if, line_word, on_line, words_from}
 
@@ -21,6 +21,10 @@ use Rattle.pg_dict.specs.Inside.LineWords.{LineWord, word_if, line_word, on_line
 on_unless : (refusal : Option Refusal) (l : LineWord) (more : LineWord → Result (List Word) Refusal) → on_line more (unless refusal l) ≡ both_parts (unless refusal (option_to_list l.word)) (more l)
 on_unless None l more = refl
 on_unless (Some r) l more = refl
+
+-- one word of a line that has letters, and none of a line without
+abbrev words_if : List ℕ → Word → List Word
+words_if signs word = elim signs [ [] ↦ [] | sign ∷ others ↦ word ∷ [] ]
 
 -- the word of a line
 word_as : (signs : List ℕ) (word : Word) → option_to_list (word_if signs word) ≡ words_if signs word

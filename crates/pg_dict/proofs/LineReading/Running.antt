@@ -10,12 +10,14 @@ use Rattle.pg_translate.specs.Alphabets.{Alphabet}
 use Rattle.pg_translate.specs.Cuts.{cut, cut_from, tokens_of}
 use Rattle.pg_translate.specs.LineRefusals.{line_refusal}
 use Rattle.pg_translate.specs.Tokens.{Token, Letter, Digit, Weight, Marked, Edge}
-use Rattle.pg_translate.specs.Gaps.{signs_of, gaps, inner_gaps, number_of, mark_of, last_else, last_number, last_mark}
+use Rattle.pg_translate.specs.Gaps.{signs_of, gaps, last_else, last_number, last_mark}
+use Rattle.pg_translate.specs.Inside.items.GapItems.{inner_gaps, number_of, mark_of}
 use Rattle.pg_translate.proofs.Gaps.{gaps_some}
 use Rattle.pg_dict.specs.Inside.Lines.PositionedSigns.{PositionedSign, positioned_sign}
 use Rattle.pg_dict.specs.Word.{Word}
 use Rattle.pg_dict.specs.Inside.SoundWords.{word_of_signs}
-use Rattle.pg_dict.specs.DictionaryWords.{at_positions, word_of_items, sets_hyphen, keeps_care}
+use Rattle.pg_dict.specs.DictionaryWords.{at_positions, word_of_items}
+use Rattle.pg_dict.specs.Inside.MarkedPositions.{sets_hyphen, keeps_care}
 use Rattle.pg_dict.specs.Inside.LineWords.{LineWord, word_if, line_word, line_reading}
 use Rattle.pg_dict.specs.Inside.Lines.LineStarts.{rest_reading}
 use Rattle.pg_dict.specs.Inside.Lines.RunningWords.{signs_behind, word_signs, running_word}

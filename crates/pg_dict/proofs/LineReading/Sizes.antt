@@ -3,7 +3,8 @@ use Rattle.std.proofs.Common.{◌≡◌, ℕ, ◌+◌, ◌-◌, ◌≤◌, ◌==
 use Rattle.std.specs.List.{onto_first, sum_by}
 use Rattle.std.proofs.lemmas.List.Sums.{sum_by-cons}
 use Rattle.std.proofs.lemmas.List.{length-take}
-use Rattle.pg_types.specs.Lines.{pieces_at, is_line_feed, without_cr, lines}
+use Rattle.pg_types.specs.Lines.{pieces_at, is_line_feed, lines}
+use Rattle.pg_types.specs.Inside.reading.LineEnds.{without_cr}
 
 -- how many bytes some texts have together
 abbrev pub size_of : List (List ℕ) → ℕ

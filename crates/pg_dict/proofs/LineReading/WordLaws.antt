@@ -11,7 +11,7 @@ use Rattle.pg_translate.specs.Tokens.{Token, Letter, Digit, Weight}
 use Rattle.pg_dict.specs.Inside.Lines.PositionedSigns.{PositionedSign, positioned_sign}
 use Rattle.pg_dict.specs.Word.{Word}
 use Rattle.pg_dict.specs.Inside.SoundWords.{word_of_signs, IsWord}
-use Rattle.pg_dict.specs.DictionaryWords.{sets_hyphen, keeps_care}
+use Rattle.pg_dict.specs.Inside.MarkedPositions.{sets_hyphen, keeps_care}
 use Rattle.pg_dict.specs.Inside.LineWords.{line_word}
 use Rattle.pg_dict.specs.Inside.Lines.RunningWords.{signs_behind, running_word}
 use Rattle.pg_dict.proofs.LineReading.Running.{same_word, running_is}

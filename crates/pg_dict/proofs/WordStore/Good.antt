@@ -11,7 +11,7 @@ use Rattle.pg_types.specs.declared.marks.Mark.TheVariants.{Nothing, Error, Misse
 use Rattle.pg_translate.specs.Tokens.{Token, Letter, Digit, Weight, Marked, Edge}
 use Rattle.pg_dict.specs.declared.store.Store.{Store}
 use Rattle.pg_dict.specs.Inside.Lines.PositionedSigns.{PositionedSign, positioned_sign, Columns, with_signs}
-use Rattle.pg_dict.specs.DictionaryWords.{sets_hyphen, keeps_care}
+use Rattle.pg_dict.specs.Inside.MarkedPositions.{sets_hyphen, keeps_care}
 use Rattle.pg_dict.specs.Word.{Word}
 use Rattle.pg_dict.specs.Inside.SoundWords.{word_of_signs, is_weight}
 use Rattle.pg_dict.proofs.WordStore.WordTests.{is_word, is_plain_at, decides, has_lengths}

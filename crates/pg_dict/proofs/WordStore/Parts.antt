@@ -1,7 +1,8 @@
 -- The words of a part.
 use Rattle.std.proofs.Common.{◌≡◌, ℕ, ◌+◌, Bool, true, false, List, [], ◌∷◌, ◌++◌, length, drop, refl, ap, sym, subst, ◌∙◌, arith}
-use Rattle.std.specs.Prelude.{slice_get, Some, if◌then◌else◌}
-use Rattle.std.specs.List.{sum_by}
+use Rattle.std.specs.Prelude.{slice_get, Some, if◌then◌else◌, filter, map}
+use Rattle.pg_dict.specs.Parts.{part_of}
+use Rattle.std.specs.List.{sum_by, enumerate_from}
 use Rattle.std.proofs.lemmas.List.{drop_more, append_assoc}
 use Rattle.std.proofs.lemmas.List.Sums.{sum_by-cons}
 use Rattle.std.proofs.lemmas.Option.{slice_get_within, get_or_from_slice_get}
@@ -10,7 +11,7 @@ use Rattle.pg_dict.specs.Inside.Lines.PositionedSigns.{PositionedSign, Columns, 
 use Rattle.pg_dict.specs.Word.{Word}
 use Rattle.pg_dict.specs.Inside.SoundWords.{IsWord, word_of_signs, letter_count}
 use Rattle.pg_dict.specs.Inside.Store.{columns_of, stored_words, IsSound}
-use Rattle.pg_dict.specs.Parts.{is_in_part, part_from}
+use Rattle.pg_dict.specs.Inside.Parts.{is_in_part, part_from}
 use Rattle.pg_dict.proofs.WordStore.Adds.{adds_words, adds_sound}
 
 -- the positions of columns, one by one
@@ -83,3 +84,18 @@ part_passed folds fold inside i done ws all w at is whole =
 -- the letters that are left
 pub letters_from : (ws : List Word) (i : ℕ) (w : Word) → slice_get ws i ≡ Some w → sum_by letter_count (drop i ws) ≡ letter_count w + sum_by letter_count (drop (i + 1) ws)
 letters_from ws i w at = ap (λ us. sum_by letter_count us) (drop_word ws i w at) ∙ sum_by-cons letter_count w (drop (i + 1) ws)
+
+-- a word that may be kept, with its number and without
+kept_as : (b : Bool) (i : ℕ) (w : Word) (ws : List Word) (rest : List (ℕ × Word)) → ws ≡ map (λ x. x.1) rest → (if b then w ∷ ws else ws) ≡ map (λ x. x.1) (if b then (i, w) ∷ rest else rest)
+kept_as true i w ws rest same = ap (λ us. w ∷ us) same
+kept_as false i w ws rest same = same
+
+part_as : (folds fold : ℕ) (inside : Bool) (i : ℕ) (ws : List Word) → part_from folds fold inside i ws ≡ map (λ x. x.1) (filter (λ x. is_in_part folds fold inside x.0) (enumerate_from i ws))
+part_as folds fold inside i [] = refl
+part_as folds fold inside i (w ∷ ws) =
+    kept_as (is_in_part folds fold inside i) i w (part_from folds fold inside (i + 1) ws) (filter (λ x. is_in_part folds fold inside x.0) (enumerate_from (i + 1) ws))
+    (part_as folds fold inside (i + 1) ws)
+
+-- the part of all words, word by word
+pub whole_part : (folds fold : ℕ) (inside : Bool) (ws : List Word) → part_from folds fold inside 0 ws ≡ part_of folds fold inside ws
+whole_part folds fold inside ws = part_as folds fold inside 0 ws

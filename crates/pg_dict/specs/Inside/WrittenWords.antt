@@ -4,12 +4,13 @@ use Rattle.std.specs.List.{list_all}
 use Rattle.pg_types.specs.declared.limits.TheConstants.{EDGE}
 use Rattle.pg_types.specs.declared.marks.Mark.{Mark}
 use Rattle.pg_types.specs.declared.marks.Mark.TheVariants.{Nothing, Error, Missed, Found, DontCare}
-use Rattle.pg_types.specs.Lines.{is_line_feed, without_cr}
+use Rattle.pg_types.specs.Lines.{is_line_feed}
+use Rattle.pg_types.specs.Inside.reading.LineEnds.{without_cr}
 use Rattle.pg_translate.specs.Alphabets.{Alphabet}
 use Rattle.pg_translate.specs.Tokens.{Token, Letter, Digit, Weight, Marked, Edge}
 use Rattle.pg_dict.specs.Inside.Lines.PositionedSigns.{PositionedSign, positioned_sign}
 use Rattle.pg_dict.specs.Word.{Word}
-use Rattle.pg_dict.specs.DictionaryWords.{sets_hyphen, keeps_care}
+use Rattle.pg_dict.specs.Inside.MarkedPositions.{sets_hyphen, keeps_care}
 use Rattle.pg_dict.specs.Inside.LineWords.{line_reading}
 
 -- a letter behind the first, with the mark and the weight of the position before it

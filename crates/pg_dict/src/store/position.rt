@@ -1,7 +1,7 @@
 //! What stands between two letters.
 ghost use Rattle.std.specs.Prelude.{◌≡◌, ◌≤◌};
 ghost use Rattle.pg_types.specs.declared.limits.TheConstants.{WEIGHT_MAX};
-ghost use Rattle.pg_dict.specs.DictionaryWords.{sets_hyphen, keeps_care};
+ghost use Rattle.pg_dict.specs.Inside.MarkedPositions.{sets_hyphen, keeps_care};
 
 use pg_types::{Mark, Weight};
 

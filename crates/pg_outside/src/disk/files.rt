@@ -57,7 +57,7 @@ fn keep_regular(kept: &mut Vec<FileId>, seen: FileStatus) -> Result<(), AllocErr
 /// where neither was there.
 ///
 /// # Errors
-/// `Unfollowed` where they are not the same.
+/// `Unfollowed` where they are not the same. Then somebody changed the name or a link meanwhile.
 fn mode_of_found(found: Option<FileId>, old: Option<FileStatus>) -> Result<Option<u32>, WriteError>
     ensures mode { IfOk result (λ mode. IsSeenMode found old mode) }
     ensures other { OnErr result ((mode : Option ℕ) → IsSeenMode found old mode → ⊥) }
@@ -165,7 +165,9 @@ fn write_regular<S: System>(
     replace_kept(alloc, system, kept, found.name.as_str(), mode, bytes)
 }
 
-/// Writes the file of this name, which was opened.
+/// Writes the file of this name, which was opened. The toolchain's files close without an answer.
+/// So an error that the system tells only when a device or a pipe is closed is lost. A regular file
+/// is synced before.
 fn write_opened<S: System>(
     alloc: Global,
     system: &mut S,
@@ -191,7 +193,9 @@ fn write_opened<S: System>(
     write_regular(alloc, system, kept, name, Some(seen), bytes)
 }
 
-/// Writes the file of this name: a regular file is replaced, and any other is written in place.
+/// Writes the file of this name: a regular file is replaced, and any other is written in place. The
+/// name is opened before its links are followed. So an output costs three calls of the system more
+/// than a replacement alone would, and five where its name is a link.
 fn write_named<S: System>(
     alloc: Global,
     system: &mut S,

@@ -25,7 +25,8 @@ struct NewFile<F: Drop> {
     own: String,
 }
 
-/// Makes a file in the folder of `name`, under a name of its own that no file has.
+/// Makes a file in the folder of `name`, under a name of its own that no file has. An output that
+/// is itself called so is replaced like any other, since the name is passed over.
 fn make_beside<S: System>(
     alloc: Global,
     system: &mut S,
@@ -144,7 +145,9 @@ fn place<S: System>(
 }
 
 /// Lets a new file with these bytes take this name, which is no link. The file gets these
-/// permissions, where they are given. The answer is which file it is.
+/// permissions, where they are given. The answer is which file it is. The folder is not synced. So
+/// after a power failure the name may lead to the old file, and no clause says what a disk holds
+/// after a crash of the machine.
 ///
 /// # Errors
 /// Each name then leads to what it led to before. A new file that was made is removed, unless the

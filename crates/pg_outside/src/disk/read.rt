@@ -46,7 +46,8 @@ fn read_piece<S: System>(
 /// Room for that many bytes is asked for at once. Pages that are never written take no memory, and
 /// so large a block is the system's again once it is freed. A smaller one that is freed would make
 /// the allocator of the C library keep the large blocks of later vectors in its heap, where each
-/// leaves a hole when it grows. Where there is no such room, the bytes take more as they come.
+/// leaves a hole when it grows. On 100,000 German words under eight levels the holes were 3.5 MB of
+/// 53. Where there is no such room, the bytes take more as they come.
 pub(crate) fn read_within<S: System>(
     system: &mut S,
     file: &mut S::File,

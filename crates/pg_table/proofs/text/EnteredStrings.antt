@@ -6,7 +6,8 @@ use Rattle.std.proofs.lemmas.Bool.{cases_Bool}
 use Rattle.std.proofs.lemmas.List.{map-append, take_all, drop_all, length-drop, length-take-le}
 use Rattle.std.proofs.lemmas.List.Sums.{fold-append}
 use Rattle.std.proofs.lemmas.Option.{slice_get_within, slice_get-get_or, get_or_from_slice_get}
-use Rattle.pg_types.specs.Placement.{Families, lowest_base, root, enter, enter_after, cell_in, with_sign}
+use Rattle.pg_types.specs.Placement.{Families, root, enter, enter_after, cell_in, with_sign}
+use Rattle.pg_types.specs.Inside.PlacementSteps.{lowest_base}
 use Rattle.pg_types.specs.Inside.Placing.{cell_of}
 use Rattle.pg_types.specs.Tails.{outputs_of}
 use Rattle.pg_patterns.specs.Inside.PatternMaps.{IsPatternMap, SignsUpTo}

@@ -23,7 +23,8 @@ pub struct PackedTrie {
     pub outputs: Outputs,
 }
 
-/// Enters all patterns in their order.
+/// Enters all patterns in their order. The pattern trie is not used: here each string is met once,
+/// with all its values, so its list is made in one go, no value is raised and nothing is hopeless.
 pub fn enter_all(alloc: Global, signs: u16, patterns: &PatternSet) -> Result<PackedTrie, AllocError>
     requires signs { IsSignCount signs }
     requires known { SignsUpTo signs patterns.now }

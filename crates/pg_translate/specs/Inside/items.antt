@@ -5,3 +5,4 @@ pub mod Refusing
 pub mod Rests
 pub mod Digits
 pub mod MarkBytes
+pub mod GapItems

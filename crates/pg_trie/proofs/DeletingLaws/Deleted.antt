@@ -4,7 +4,8 @@ use Rattle.std.proofs.lemmas.Bool.{cases_Bool, or_cases, or_left, or_right, le-l
 use Rattle.std.proofs.lemmas.List.{append-nil, length_push}
 use Rattle.std.specs.List.{flat_map, list_any, starts_with}
 use Rattle.std.specs.FinMap.Entries.{find, same_entries}
-use Rattle.pg_types.specs.Placement.{keeps_cell, kept_family, kept_families}
+use Rattle.pg_types.specs.Placement.{keeps_cell, kept_families}
+use Rattle.pg_types.specs.Inside.PlacementSteps.{kept_family}
 use Rattle.pg_types.specs.Inside.Placing.{cell_of}
 use Rattle.pg_patterns.specs.DottedSigns.{dotted_cmp}
 use Rattle.pg_patterns.specs.Inside.DottedOrder.{dotted_total, dotted_exact}

@@ -6,7 +6,8 @@ use Rattle.std.specs.Ordering.{is_eq, is_lt}
 use Rattle.std.specs.Cmp.{tied_itself}
 use Rattle.std.specs.FinMap.Entries.{find, put, is_sorted, below_all}
 use Rattle.std.specs.List.{flat_map, list_any}
-use Rattle.pg_types.specs.Placement.{Family, Families, family_at, without_family, kept_family}
+use Rattle.pg_types.specs.Placement.{Family, Families, family_at}
+use Rattle.pg_types.specs.Inside.PlacementSteps.{without_family, kept_family}
 use Rattle.pg_types.specs.Inside.Placing.{cell_of, without_sign}
 use Rattle.pg_types.proofs.BoolFacts.{first_half, second_half, is_true, holds}
 use Rattle.pg_cells.specs.Inside.linked.ValuedFamilies.{ValuedFamilies}

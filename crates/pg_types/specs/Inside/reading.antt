@@ -2,3 +2,4 @@
 pub mod Answers
 pub mod ItemSteps
 pub mod Parts
+pub mod LineEnds

@@ -1,5 +1,6 @@
 use Rattle.std.proofs.Common.{◌≡◌, ◌<◌, take, drop, Some}
-use Rattle.pg_types.specs.Placement.{enter_by, enter_after}
+use Rattle.pg_types.specs.Placement.{enter_after}
+use Rattle.pg_types.specs.Inside.PlacementSteps.{enter_by}
 use Rattle.pg_types.specs.Inside.Placing.{cell_of}
 use Rattle.pg_cells.specs.Inside.linked.AreValuedFamilies.{AreValuedFamilies}
 use Rattle.pg_cells.specs.Inside.families.Searches.{search_start}

@@ -1,7 +1,7 @@
 -- The signs of words, each with the position before it.
 use Rattle.std.specs.Prelude.{ℕ, Bool, List, [], ◌++◌, map}
 use Rattle.pg_types.specs.declared.marks.Mark.{Mark}
-use Rattle.pg_dict.specs.DictionaryWords.{sets_hyphen, keeps_care}
+use Rattle.pg_dict.specs.Inside.MarkedPositions.{sets_hyphen, keeps_care}
 
 -- a sign, with the hyphen, weight and care of the position before it
 pub record PositionedSign : Type 0 where

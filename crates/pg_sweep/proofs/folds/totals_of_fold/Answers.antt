@@ -5,18 +5,18 @@ use Rattle.pg_dict.specs.Parts.{part_of}
 use Rattle.pg_dict.specs.Word.{Word}
 use Rattle.pg_dict.specs.Inside.SoundWords.{SignsAtMost}
 use Rattle.pg_sweep.specs.Inside.Inputs.{terms, rest_totals}
-use Rattle.pg_sweep.proofs.Steps.{part_signs}
+use Rattle.pg_sweep.proofs.Steps.{fold_signs}
 use Rattle.pg_sweep.proofs.folds.totals_of_fold.Goals as goal
 
 pub totals_by_rest-requires-clause-rest : goal.totals_by_rest-requires-clause-rest
 totals_by_rest-requires-clause-rest g c =
     let n = letters_of c.args.inputs.now.table.now + 1 in
-    subst (λ (ws : List Word). SignsAtMost n ws) (sym c.in_ok-rest.ensures.words) (part_signs n c.args.inputs.now.folds c.args.fold false 0 c.args.inputs.now.dictionary.now c.requires.signs.0)
+    subst (λ (ws : List Word). SignsAtMost n ws) (sym c.in_ok-rest.ensures.words) (fold_signs n c.args.inputs.now.folds c.args.fold false c.args.inputs.now.dictionary.now c.requires.signs.0)
 
 pub totals_by_rest-requires-clause-left_out : goal.totals_by_rest-requires-clause-left_out
 totals_by_rest-requires-clause-left_out g c =
     let n = letters_of c.args.inputs.now.table.now + 1 in
-    subst (λ (ws : List Word). SignsAtMost n ws) (sym c.in_ok-left_out.ensures.words) (part_signs n c.args.inputs.now.folds c.args.fold true 0 c.args.inputs.now.dictionary.now c.requires.signs.0)
+    subst (λ (ws : List Word). SignsAtMost n ws) (sym c.in_ok-left_out.ensures.words) (fold_signs n c.args.inputs.now.folds c.args.fold true c.args.inputs.now.dictionary.now c.requires.signs.0)
 
 pub returns-clause-value : goal.returns-clause-value
 returns-clause-value g c =

@@ -1,5 +1,6 @@
 -- The parts of a line's refusal, and what one line gives.
 use Rattle.std.specs.Prelude.{ℕ, if◌then◌else◌, List, slice_get, Option, None, Some, option_map, Result}
+use Rattle.std.specs.List.{filter_map}
 use Rattle.std.specs.Option.{option_or}
 use Rattle.pg_types.specs.declared.refusals.Kind.{Kind}
 use Rattle.pg_types.specs.declared.refusals.Refusal.{Refusal}
@@ -9,7 +10,7 @@ use Rattle.pg_translate.specs.Alphabets.{Alphabet}
 use Rattle.pg_translate.specs.Tokens.{Token, is_ended}
 use Rattle.pg_translate.specs.Cuts.{PlacedItem, Cut, cut, tokens_of}
 use Rattle.pg_translate.specs.Gaps.{sign_of}
-use Rattle.pg_translate.specs.LineRefusals.{limit, bad_kind, sign_columns, line_refusal}
+use Rattle.pg_translate.specs.LineRefusals.{limit, bad_kind, line_refusal}
 
 -- the most signs that a line may have
 abbrev pub signs_max : Place → ℕ
@@ -22,6 +23,10 @@ long_kind place = (limit place).1
 -- the column of a sign
 abbrev pub sign_column : PlacedItem → Option ℕ
 sign_column item = option_map (λ _. item.column) (sign_of item.token)
+
+-- the columns of the signs of a line
+abbrev pub sign_columns : Cut → List ℕ
+sign_columns c = filter_map sign_column c.items
 
 -- the refusal where the cut of a line stops, unless that is at its end or before a blank or TAB
 abbrev pub stop_refusal : Place → ℕ → Cut → Option Refusal

@@ -1,14 +1,16 @@
 -- The checks of a translate file, as its reader goes through them: pair by pair, byte by byte and
 -- line by line.
-use Rattle.std.specs.Prelude.{ℕ, ◌+◌, ◌-◌, ◌*◌, ◌==◌, Bool, not, ◌&&◌, if◌then◌else◌, List, [], ◌∷◌, ◌++◌, Result, map}
+use Rattle.std.specs.Prelude.{ℕ, ◌+◌, ◌-◌, ◌*◌, ◌==◌, Bool, not, ◌&&◌, ◌||◌, if◌then◌else◌, List, [], ◌∷◌, ◌++◌, Result, map}
 use Rattle.std.specs.Char.{is_ascii_digit}
 use Rattle.pg_types.specs.declared.refusals.Kind.TheVariants.{BadMinima, BadMark}
 use Rattle.pg_types.specs.declared.refusals.Refusal.{Refusal}
 use Rattle.pg_types.specs.Lines.{pieces_at}
 use Rattle.pg_types.specs.Inside.reading.Parts.{first_refusal}
 use Rattle.pg_translate.specs.declared.head.TheConstants.{DEFAULT_LEFT, DEFAULT_RIGHT}
+use Rattle.std.specs.List.{list_any}
+use Rattle.pg_translate.specs.Spellings.{is_space}
 use Rattle.pg_translate.specs.Alphabets.{Alphabet}
-use Rattle.pg_translate.specs.Tables.{check, in_column, marks_of, mark_fails, ListedSpelling, spellings_at, spelling_with_sign, spelling_check}
+use Rattle.pg_translate.specs.Tables.{check, in_column, marks_of, ListedSpelling, spellings_at, spelling_with_sign, spelling_check}
 
 -- whether all checks pass, or the refusal of the first that fails
 abbrev pub first_failure : List Refusal → Result (Unit {0}) Refusal
@@ -46,6 +48,15 @@ left_minimum head = pair_minimum (pair_at head 1) DEFAULT_LEFT
 -- the right minimum of a head
 abbrev pub right_minimum : List ℕ → ℕ
 right_minimum head = pair_minimum (pair_at head 3) DEFAULT_RIGHT
+
+-- the mark byte in a column; a blank means a default
+abbrev pub mark_in : List ℕ → ℕ → ℕ → ℕ
+mark_in head column default = if in_column head column == 32 then default else in_column head column
+
+-- a mark fails where it is a digit, a blank, TAB, LF, CR or `{`, or equals one before it
+abbrev pub mark_fails : List ℕ → ℕ → Bool
+mark_fails earlier mark = is_ascii_digit mark || is_space mark
+    || mark == 123 || list_any (λ other. other == mark) earlier
 
 -- the checks of the marks, from a column on
 abbrev pub mark_checks_from : ℕ → List ℕ → List ℕ → List Refusal

@@ -1,7 +1,8 @@
 use Rattle.std.proofs.Common.{◌≡◌, sym, ◌∙◌, ap, not}
 use Rattle.std.specs.List.{position_or_len}
 use Rattle.std.proofs.lemmas.List.Sums.{prefix_len-le-length}
-use Rattle.pg_types.specs.Parameters.{items, is_separator}
+use Rattle.pg_types.specs.Parameters.{items}
+use Rattle.pg_types.specs.Inside.reading.ItemSteps.{is_separator}
 use Rattle.pg_types.proofs.Separated.{items_after, begins_after, items_first, empty_from}
 use Rattle.pg_types.proofs.items.next_item.Goals as goal
 

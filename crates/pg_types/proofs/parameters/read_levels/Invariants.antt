@@ -1,6 +1,7 @@
 use Rattle.std.proofs.Common.{◌≡◌, ℕ, ◌+◌, ◌-◌, ◌*◌, drop, All}
 use Rattle.std.specs.List.{flat_map, range_with_len}
-use Rattle.pg_types.specs.Parameters.{items, level_demands, refusal_from}
+use Rattle.pg_types.specs.Parameters.{items, refusal_from}
+use Rattle.pg_types.specs.Inside.reading.ItemSteps.{level_demands}
 use Rattle.pg_types.specs.Inside.Ranges.{IsLevel}
 use Rattle.pg_types.specs.Inside.reading.ItemSteps.{demands_of_levels, levels_of}
 use Rattle.pg_types.proofs.parameters.read_levels.Given as goal

@@ -1,10 +1,20 @@
 -- Items that are taken from a parameters file: what is refused of them, and what of those behind.
-use Rattle.std.specs.Prelude.{◌≡◌, ℕ, ◌*◌, List, ◌++◌, map, drop, Option, Some}
+use Rattle.std.specs.Prelude.{◌≡◌, ℕ, ◌*◌, ◌==◌, ◌||◌, Bool, List, [], ◌∷◌, ◌++◌, map, drop, Option, Some}
 use Rattle.std.specs.List.{flat_map, range_with_len}
 use Rattle.pg_types.specs.declared.parameters.LevelParams.{LevelParams}
 use Rattle.pg_types.specs.declared.items.Items.{Items}
 use Rattle.pg_types.specs.declared.refusals.Refusal.{Refusal}
-use Rattle.pg_types.specs.Parameters.{items, level_demands, level_of, refusal_from}
+use Rattle.pg_types.specs.declared.limits.TheConstants.{LENGTH_MAX, COST_MAX}
+use Rattle.pg_types.specs.Parameters.{items, number_at, level_of, refusal_from}
+
+-- blank, TAB, CR and LF stand between items
+abbrev pub is_separator : ℕ → Bool
+is_separator b = b == 32 || b == 9 || b == 13 || b == 10
+
+-- what a level demands of its five items: the lengths, two weights and the threshold, each in range
+abbrev pub level_demands : List (List ℕ) → List (ℕ × ℕ)
+level_demands xs = (1, LENGTH_MAX) ∷ (number_at xs 0, LENGTH_MAX)
+    ∷ (1, COST_MAX) ∷ (1, COST_MAX) ∷ (1, COST_MAX) ∷ []
 
 -- a demand on an item: it is a number, from the least to the greatest
 abbrev pub Demand : Type 0

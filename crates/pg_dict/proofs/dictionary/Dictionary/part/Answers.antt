@@ -2,12 +2,13 @@ use Rattle.std.proofs.Common.{◌≡◌, ◌++◌, IfOk, List, [], map, drop, le
 use Rattle.std.proofs.lemmas.List.{append-nil, drop_all}
 use Rattle.pg_dict.specs.declared.store.StoredWord.{StoredWord}
 use Rattle.pg_dict.specs.Word.{Word}
-use Rattle.pg_dict.specs.Parts.{part_from, part_of}
+use Rattle.pg_dict.specs.Parts.{part_of}
+use Rattle.pg_dict.specs.Inside.Parts.{part_from}
 use Rattle.pg_dict.specs.Inside.Lines.PositionedSigns.{Columns}
 use Rattle.pg_dict.proofs.LineReading.Lines.{starts_sound}
 use Rattle.pg_dict.specs.Inside.LentWords.{lent_word}
 use Rattle.pg_dict.specs.Inside.Store.{columns_of, stored_words, word_at}
-use Rattle.pg_dict.proofs.WordStore.Parts.{part_taken, part_passed, letters_from}
+use Rattle.pg_dict.proofs.WordStore.Parts.{part_taken, part_passed, letters_from, whole_part}
 use Rattle.pg_dict.proofs.WordStore.Told.{few_words}
 use Rattle.pg_dict.proofs.dictionary.Dictionary.part.Goals as goal
 use Rattle.pg_dict.proofs.dictionary.Dictionary.part.Goals.{then-belongs+in_ok-push_word, else-belongs}
@@ -61,7 +62,8 @@ words-init c =
     let signs : length c.new-store.result.signs.items ≡ 0 = ap (λ (c : Columns). length c.signs) c.new-store.ensures.columns in
     record {
       words =
-          ap (λ (ws : List StoredWord). map (word_at (columns_of c.new-store.result)) ws ++ part_of c.args.folds c.args.fold c.args.inside c.args.self.now) c.new-store.ensures.words;
+          ap (λ (ws : List StoredWord). map (word_at (columns_of c.new-store.result)) ws ++ part_from c.args.folds c.args.fold c.args.inside 0 c.args.self.now) c.new-store.ensures.words
+          ∙ whole_part c.args.folds c.args.fold c.args.inside c.args.self.now;
       sound = starts_sound c.new-store.result c.new-store.ensures.columns c.new-store.ensures.words;
       few = omega arith;
     }

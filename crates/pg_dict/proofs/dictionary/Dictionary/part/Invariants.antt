@@ -1,7 +1,8 @@
 use Rattle.std.proofs.Common.{◌≡◌, ◌≤◌, ◌+◌, ◌*◌, ◌++◌, length, drop}
 use Rattle.std.specs.List.{sum_by}
 use Rattle.pg_dict.specs.Inside.SoundWords.{letter_count}
-use Rattle.pg_dict.specs.Parts.{part_from, part_of}
+use Rattle.pg_dict.specs.Parts.{part_of}
+use Rattle.pg_dict.specs.Inside.Parts.{part_from}
 use Rattle.pg_dict.specs.Inside.Store.{stored_words, IsSound}
 use Rattle.pg_dict.proofs.dictionary.Dictionary.part.Given as goal
 
