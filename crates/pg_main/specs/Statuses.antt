@@ -1,5 +1,5 @@
 -- The status of a program.
-use Rattle.std.specs.Prelude.{◌≡◌, ℕ, List, String, map, string_bytes, ◌⊎◌}
+use Rattle.std.specs.Prelude.{◌≡◌, ℕ, List, String, map, string_bytes}
 use Rattle.std.specs.declared.alloc.Global.{Global}
 use Rattle.pg_plans.specs.Plans.{Moment}
 use Rattle.pg_plans.specs.Statuses.{code_of}
@@ -16,7 +16,7 @@ pub record IsCodeOfRun {F : Type 0} (arguments : List (String Global)) (code : �
   pub code_of_it : code ≡ code_of answer
   pub run : IsRun (map string_bytes arguments) answer old new
   pub uncalled : CallsNoFile (plan_of (map string_bytes arguments)) → (after ≡ before)
-  pub promised : IsPromised arguments answer old.0 new.0
+  pub promised : IsPromised (map string_bytes arguments) answer old.0 new.0
 
 -- there were no arguments: the status tells why, and neither the files nor the sink were touched
 pub record IsCodeOfNone {F O : Type 0} (reason : NoArguments) (code : ℕ)
@@ -24,10 +24,3 @@ pub record IsCodeOfNone {F O : Type 0} (reason : NoArguments) (code : ℕ)
   pub code_of_it : code ≡ code_of_none reason
   pub files : after ≡ before
   pub out : out_after ≡ out_before
-
--- some arguments are there for which the status is that of a call that followed their plan, or
--- there were none and the status tells why
-abbrev pub IsCodeOfSome : ℕ → Type 0
-IsCodeOfSome code = ((arguments : List (List ℕ)) × (answer : Status) × (old : Moment)
-    × (new : Moment) × (code ≡ code_of answer) × IsRun arguments answer old new)
-    ⊎ ((reason : NoArguments) × (code ≡ code_of_none reason))

@@ -5,7 +5,7 @@
 ghost use Rattle.std.specs.Prelude.{◌≡◌, ◌≤◌, ◌⊎◌, IfOk, IfErr, MatchResult};
 ghost use Rattle.std.specs.Process.{exit_status};
 ghost use Rattle.pg_main.specs.ProgramArguments.{arguments_in, IsReasonOf};
-ghost use Rattle.pg_main.specs.Statuses.{IsCodeOfRun, IsCodeOfNone, IsCodeOfSome};
+ghost use Rattle.pg_main.specs.Statuses.{IsCodeOfRun, IsCodeOfNone};
 
 mod listen;
 mod named;
@@ -113,6 +113,9 @@ fn code_from(status: u8) -> ExitCode
 /// It is that of the answer of a call of `run` on all arguments after the program's name. It is 5
 /// where there is no memory for these arguments, here or in the system, and 6 where the system does
 /// not give them. The observer is told of the call and of its answer.
+///
+/// Only `run_arguments` names the system. So a body that changes the status of the system's call can
+/// be refused nowhere else than here.
 pub fn exit_of<F: Files, O: Sink, L: Listen>(
     alloc: Global,
     arguments: io::Result<Args>,
@@ -210,8 +213,7 @@ pub fn run_arguments<
     W: Write + Drop,
     E: Write + IsTerminal + Drop,
 >(rt: &R, out: W, err: E) -> ExitCode
-    ensures code { IsCodeOfSome (exit_status result) }
-    ensures most { exit_status result ≤ 6 }
+    ensures { exit_status result ≤ 6 }
 {
     let alloc = rt.alloc();
     let is_shown = shows_progress(rt, &err);

@@ -1,4 +1,6 @@
 //! A call over files and a sink that never fail.
+ghost use Rattle.std.specs.Prelude.{◌≢◌};
+
 use pg_outside::{QuietFiles, QuietSink};
 use pg_top::{Status, run};
 use std::alloc::{AllocError, Global};
@@ -47,13 +49,16 @@ fn compare(rt: &impl Abort, files: &QuietFiles, out: &QuietSink) {
     assert_eq!(rt; out.bytes(), Some(PRINTED));
 }
 
-/// Does what the arguments ask for, over files and a sink that never fail.
+/// Does what the arguments ask for, over files and a sink that never fail. The answer is never a
+/// fault.
 fn run_quietly(
     alloc: Global,
     words: &[String],
     files: &mut QuietFiles,
     out: &mut QuietSink,
-) -> Status {
+) -> Status
+    ensures { result ≢ Status.Fault }
+{
     run(alloc, words, files, out)
 }
 

@@ -11,14 +11,14 @@ use Rattle.pg_steps.specs.declared.inputs.Given.{Given}
 use Rattle.pg_steps.specs.declared.inputs.Given.TheVariants as given
 use Rattle.pg_words.specs.AcceptedNames.{is_name, outputs_differ, where_accepted}
 use Rattle.pg_words.specs.NumbersWithin.{number_within}
-use Rattle.pg_words.specs.Requests.{Request, request_of, ToGenerate, ToAudit, ToSample, ToPack, ToTotals, ToPrune, ToSweep}
+use Rattle.pg_words.specs.Inside.Requests.{Request, request_of, ToGenerate, ToAudit, ToSample, ToPack, ToTotals, ToPrune, ToSweep}
 use Rattle.pg_words.specs.declared.limits.TheConstants.{SEED_MAX, COUNT_MAX, SAMPLE_DIGITS, FOLDS_DIGITS, PRICE_DIGITS}
-use Rattle.pg_words.specs.forms.Generate.{FileNames, with_options, with_option, generate_in, audit_in, input_names, output_names, files_in}
-use Rattle.pg_words.specs.forms.Sample.{sample_in}
-use Rattle.pg_words.specs.forms.Pack.{PackRequest, pack_in}
-use Rattle.pg_words.specs.forms.Totals.{TotalsRequest, totals_in}
-use Rattle.pg_words.specs.forms.Prune.{PruneRequest, prune_in}
-use Rattle.pg_words.specs.forms.Sweep.{SweepRequest, sweep_in}
+use Rattle.pg_words.specs.Inside.forms.Generate.{FileNames, with_options, with_option, generate_in, audit_in, input_names, output_names, files_in}
+use Rattle.pg_words.specs.Inside.forms.Sample.{sample_in}
+use Rattle.pg_words.specs.Inside.forms.Pack.{PackRequest, pack_in}
+use Rattle.pg_words.specs.Inside.forms.Totals.{TotalsRequest, totals_in}
+use Rattle.pg_words.specs.Inside.forms.Prune.{PruneRequest, prune_in}
+use Rattle.pg_words.specs.Inside.forms.Sweep.{SweepRequest, sweep_in}
 use Rattle.pg_top.specs.Auditing.{audit, audited, is_cells}
 use Rattle.pg_top.specs.Commands.{plan_of}
 use Rattle.pg_top.specs.Generating.{generate, generated, files_asked, files_of}
@@ -132,11 +132,11 @@ equal first second word differ one two =
 
 module _ (d p o t a r : List ℕ) where
   -- the names with those of the options
-  abbrev named : Option (List ℕ) → Option (List ℕ) → FileNames
+  abbrev pub named : Option (List ℕ) → Option (List ℕ) → FileNames
   named pattmp cells = record { dict = d; patterns = p; output = o; translate = t; params = a; report = r; pattmp = pattmp; cells = cells }
 
   -- both are none, or both come of the same options
-  abbrev AreAsked : Option (List (Given × List ℕ)) → Option FileNames → Type 0
+  abbrev pub AreAsked : Option (List (Given × List ℕ)) → Option FileNames → Type 0
   AreAsked asked names = ((asked ≡ None) × (names ≡ None))
       ⊎ ((pattmp : Option (List ℕ)) × (cells : Option (List ℕ)) × (asked ≡ Some (asked_of (named pattmp cells))) × (names ≡ Some (named pattmp cells)))
 
@@ -168,7 +168,7 @@ module _ (d p o t a r : List ℕ) where
   two_options one two false b2 false b4 true h k same same' apart apart' = inl (refl, refl)
   two_options one two false b2 false b4 false h k same same' apart apart' = inl (refl, refl)
 
-  are_asked : (options : List (List ℕ)) → AreAsked (files_asked options) (with_options (named None None) options)
+  pub are_asked : (options : List (List ℕ)) → AreAsked (files_asked options) (with_options (named None None) options)
   are_asked [] = inr (None, None, refl, refl)
   are_asked (option ∷ []) = inl (refl, refl)
   are_asked (option ∷ name ∷ []) = one_option name (bytes_eq option (codes "--pattmp")) (bytes_eq option (codes "--cells"))

@@ -4,7 +4,7 @@ use Rattle.std.proofs.lemmas.List.{map-append}
 use Rattle.std.proofs.lemmas.Simd.{map-map}
 use Rattle.pg_steps.specs.declared.inputs.Given.{Given}
 use Rattle.pg_steps.specs.declared.inputs.Given.TheVariants as given
-use Rattle.pg_words.specs.forms.Generate.{FileNames, if_asked}
+use Rattle.pg_words.specs.Inside.forms.Generate.{FileNames, if_asked}
 use Rattle.pg_top.specs.Selection.{selected_text, selected_list, selected_cells_text, selected_report, selected_file}
 use Rattle.pg_top.specs.Inside.Requests.{selected_names}
 use Rattle.pg_top.specs.Inside.selection.SelectedFiles.{made_file, made_files, written_file, due_files, selected_files}

@@ -6,5 +6,6 @@ pub mod Ordered
 pub mod OwnPlans
 pub mod RunLaws
 pub mod CommandLaws
+pub mod PackedTotals
 pub mod MeantReads
 pub mod Promised

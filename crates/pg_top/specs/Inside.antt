@@ -1,5 +1,6 @@
 -- What only contracts between layers and proofs need.
 pub mod Comparing
+pub mod Keeping
 pub mod Packed
 pub mod Requests
 pub mod Sampled

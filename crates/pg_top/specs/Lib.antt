@@ -1,5 +1,6 @@
 pub mod PrintedLines
 pub mod Selection
+pub mod ReadingBack
 pub mod Generating
 pub mod Auditing
 pub mod Sampling

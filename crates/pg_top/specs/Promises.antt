@@ -1,14 +1,13 @@
 -- What is promised of a command that is done, beside its plan.
-use Rattle.std.specs.Prelude.{◌≡◌, ℕ, ◌+◌, ◌≤◌, List, String, length, Ok, IfSome}
-use Rattle.std.specs.declared.alloc.Global.{Global}
-use Rattle.pg_types.specs.declared.limits.TheConstants.{FILE_MAX}
+use Rattle.std.specs.Prelude.{◌≡◌, ℕ, ◌+◌, List, [], ◌∷◌, Some, Ok, codes}
+use Rattle.std.specs.Option.{IsSome}
 use Rattle.pg_dict.specs.DictionaryWords.{words}
 use Rattle.pg_dict.specs.Word.{Word}
 use Rattle.pg_outside.specs.Content.{FileMap, FilesShown}
 use Rattle.pg_patterns.specs.Starts.{start}
-use Rattle.pg_patterns.specs.Texts.{pattern_text}
 use Rattle.pg_patterns.specs.Values.{Patterns, value_at}
 use Rattle.pg_plans.specs.Calls.{Told}
+use Rattle.pg_plans.specs.Plans.{Moment}
 use Rattle.pg_plans.specs.declared.answers.Status.{Status}
 use Rattle.pg_plans.specs.declared.answers.Status.TheVariants.{Done}
 use Rattle.pg_prune.specs.Prunes.{pruning_of}
@@ -16,12 +15,14 @@ use Rattle.pg_select.specs.CountedPositions.{Minima, minima_of}
 use Rattle.pg_select.specs.Sums.{totals}
 use Rattle.pg_table.specs.Lookups.{table_value, table_totals}
 use Rattle.pg_table.specs.Texts.{table_text}
+use Rattle.pg_texts.specs.ReportTexts.{ending_text}
 use Rattle.pg_translate.specs.Alphabets.{Alphabet, letters_of}
 use Rattle.pg_translate.specs.Tables.{table}
-use Rattle.pg_words.specs.Commands.{request_of_call}
-use Rattle.pg_words.specs.Requests.{Request, ToPack, ToPrune}
-use Rattle.pg_top.specs.Theorems.{Means}
+use Rattle.pg_top.specs.Commands.{IsRun}
+use Rattle.pg_top.specs.ReadingBack.{ReadsBackPatterns, ReadsBackSelected}
+use Rattle.pg_top.specs.Theorems.{HasInputs, Means, PutsLines}
 use Rattle.pg_top.specs.Totalling.{packed_table}
+use Rattle.pg_top.specs.declared.selection.Inputs.{Inputs}
 
 -- a packed table gives each position of each word the value of the patterns, and so their totals
 pub record GivesValues (bytes : List ℕ) (P : Patterns) : Type 0 where
@@ -41,10 +42,6 @@ pub record PackPromise (files : FileMap) (p t : List ℕ) : Type 0 where
   pub entries : Means (start alphabet) files p patterns
   pub good : IsGoodTable alphabet patterns (table_text (letters_of alphabet + 1) patterns)
 
--- the text of patterns is read as these patterns, where it is no longer than a pattern file may be
-abbrev pub ReadsBackPatterns : Alphabet → Patterns → Type 0
-ReadsBackPatterns t P = length (pattern_text t P) ≤ FILE_MAX → start t (pattern_text t P) ≡ Ok P
-
 -- what `prune` writes is read back
 pub record PrunePromise (files : FileMap) (d p t : List ℕ) : Type 0 where
   pub alphabet : Alphabet
@@ -56,15 +53,31 @@ pub record PrunePromise (files : FileMap) (d p t : List ℕ) : Type 0 where
   pub reads_back : ReadsBackPatterns alphabet
       (pruning_of (minima_of alphabet) dictionary patterns).patterns
 
--- what is promised of a command that is done, by the files before it
-abbrev pub KeepsPromise : Request → FilesShown → FilesShown → Type 0
-KeepsPromise (ToPack n) old new = Told old.held new.held
-    (λ before after. PackPromise before n.patterns n.translate)
-KeepsPromise (ToPrune n) old new = Told old.held new.held
-    (λ before after. PrunePromise before n.dict n.patterns n.translate)
-KeepsPromise other old new = Unit {0}
+-- what `generate` writes is read back
+pub record GeneratePromise (files : FileMap) (d p t a : List ℕ) : Type 0 where
+  pub inputs : Inputs
+  pub has : HasInputs files d p t a inputs
+  pub reads_back : ReadsBackSelected inputs
 
--- a call on these arguments that is done keeps what is promised of it
-abbrev pub IsPromised : List (String Global) → Status → FilesShown → FilesShown → Type 0
-IsPromised arguments status old new = IfSome (request_of_call arguments)
-    (λ asked. status ≡ Done → KeepsPromise asked old new)
+-- what is promised of a call on these arguments that is done, by the files before it
+pub record IsPromised (arguments : List (List ℕ)) (status : Status)
+    (old new : FilesShown) : Type 0 where
+  pub generate : (d p o t a r : List ℕ) (options : List (List ℕ))
+      → arguments ≡ codes "generate" ∷ d ∷ p ∷ o ∷ t ∷ a ∷ r ∷ options → status ≡ Done
+      → Told old.held new.held (λ before after. GeneratePromise before d p t a)
+  pub pack : (p t o : List ℕ) → arguments ≡ codes "pack" ∷ p ∷ t ∷ o ∷ [] → status ≡ Done
+      → Told old.held new.held (λ before after. PackPromise before p t)
+  pub prune : (d p o t r : List ℕ) → arguments ≡ codes "prune" ∷ d ∷ p ∷ o ∷ t ∷ r ∷ []
+      → status ≡ Done → Told old.held new.held (λ before after. PrunePromise before d p t)
+
+-- totals_of_packed: `totals` of the table that `pack` wrote, from those files on, puts the totals
+-- by the patterns
+abbrev pub TotalsOfPacked : Type 0
+TotalsOfPacked = (p t o d : List ℕ) (old mid next new : Moment)
+    → IsRun (codes "pack" ∷ p ∷ t ∷ o ∷ []) Done old mid
+    → IsPromised (codes "pack" ∷ p ∷ t ∷ o ∷ []) Done old.0 mid.0
+    → IsRun (codes "totals" ∷ d ∷ t ∷ o ∷ []) Done next new → (files : FileMap)
+    → mid.0.held ≡ Some files → next.0.held ≡ Some files → IsSome new.0.held
+    → (T : Alphabet) × (P : Patterns) × (W : List Word) × Means table files t T
+    × Means (start T) files p P × Means (words T) files d W
+    × PutsLines next new (ending_text (totals (minima_of T) W P))

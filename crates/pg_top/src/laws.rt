@@ -1,4 +1,5 @@
 //! What is known of each call. A call of these does nothing; its contract is the law.
+ghost use Rattle.pg_top.specs.Promises.{TotalsOfPacked};
 ghost use Rattle.pg_top.specs.Theorems.{AuditAccepts, AuditExact, EachAnswer, GenerateExact, PackExact, PruneExact, SampleExact, SweepExact, TotalsExact};
 
 /// After `generate` is done each output name holds its text, every other file is as it was, and the
@@ -7,13 +8,14 @@ pub fn generate_exact()
     ensures { GenerateExact }
 {}
 
-/// With no fault and no want of memory, `audit` of accepted inputs says yes exactly where each given
-/// file is its text. Where it says no, it names the first that is not.
+/// With no fault and no want of memory, `audit` of accepted inputs says yes where each given file
+/// is its text, and else no. Then it names the first that is not.
 pub fn audit_exact()
     ensures { AuditExact }
 {}
 
-/// What `generate` wrote, `audit` of the same names never denies.
+/// What `generate` wrote, `audit` of the same names accepts, with options of its own. Arguments that
+/// are no command, a fault or want of memory may hinder it.
 pub fn audit_accepts()
     ensures { AuditAccepts }
 {}
@@ -23,14 +25,14 @@ pub fn only_these()
     ensures { EachAnswer }
 {}
 
-/// After `prune` is done its output holds entries of the pattern file that break each word alike,
-/// and none of them can go alone.
+/// After `prune` is done its outputs hold what pruning finds. Its entries are of the pattern file
+/// and break each word alike, and none of them can go alone.
 pub fn prune_exact()
     ensures { PruneExact }
 {}
 
-/// After `sweep` is done its output holds the rows of the sets of parameters, and the set that was
-/// named costs least, the first of such sets.
+/// After `sweep` is done its output holds the rows of the sets of parameters by its arguments, and
+/// the set that was named costs least, the first of such sets.
 pub fn sweep_exact()
     ensures { SweepExact }
 {}
@@ -40,12 +42,18 @@ pub fn totals_exact()
     ensures { TotalsExact }
 {}
 
-/// After `pack` is done its output holds the packed table of the patterns.
+/// After `pack` is done its output holds the packed table of the patterns, and its line was put.
 pub fn pack_exact()
     ensures { PackExact }
 {}
 
-/// `sample` is never refused. After it is done the lines of its selection were put.
+/// `totals` of the table that `pack` wrote puts the totals by the patterns.
+pub fn totals_of_packed()
+    ensures { TotalsOfPacked }
+{}
+
+/// `sample` is never refused and calls no file. After it is done the lines of the selection by its
+/// arguments were put.
 pub fn sample_exact()
     ensures { SampleExact }
 {}

@@ -2,6 +2,8 @@
 ghost use Rattle.std.specs.Prelude.{◌≡◌, ◌++◌, [], ◌∷◌, IfOk, OnOk, IfSome, Some};
 ghost use Rattle.pg_driver.specs.Inside.records.RunAccounts.{TellsCells};
 ghost use Rattle.pg_words.specs.Inside.CommandRequests.{texts_of};
+ghost use Rattle.pg_top.specs.ReadingBack.{ReadsBackPatterns};
+ghost use Rattle.pg_top.specs.Selection.{selected_patterns};
 ghost use Rattle.pg_top.specs.Inside.selection.SelectionAccounts.{selected_cells};
 ghost use Rattle.pg_top.specs.Inside.selection.SelectedFiles.{made_files, due_files};
 ghost use Rattle.pg_top.specs.Inside.selection.SelectedRuns.{TellsSelection, HasSelected};
@@ -40,7 +42,9 @@ fn push_selected<'a>(
 }
 
 /// The files of a selection in their order, after the run over an engine: the patterns, the
-/// hyphenated list and the cells file where they are asked for, and the report.
+/// hyphenated list and the cells file where they are asked for, and the report. The plain engine
+/// has no cells. So what a run tells of them is asked for only where the cells file is, and `audit`
+/// never has one.
 pub fn make_selected<'a, E: Engine>(
     alloc: Global,
     names: &Names<'a>,
@@ -53,8 +57,10 @@ pub fn make_selected<'a, E: Engine>(
     requires told { TellsSelection inputs.now run.now }
     requires cells { IfSome names.now.cells
         (λ _. TellsCells (Some (selected_cells inputs.now)) run.now) }
-    ensures { IfOk result
+    ensures files { IfOk result
         (λ files. made_files files.items ≡ due_files (texts_of names.now) inputs.now) }
+    ensures reads_back { IfOk result
+        (λ _. ReadsBackPatterns inputs.now.table (selected_patterns inputs.now)) }
 {
     let mut files = Vec::new(alloc);
     let text = pattern_file(alloc, inputs, run)?;

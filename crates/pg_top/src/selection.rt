@@ -1,18 +1,23 @@
 //! The selection of patterns: what it is made of, and what is told of its run.
-ghost use Rattle.std.specs.Prelude.{◌≡◌, IfOk, OnOk};
+ghost use Rattle.std.specs.Prelude.{◌≡◌, ◌≤◌, IfOk, OnOk, Ok, filter, length};
 ghost use Rattle.std.specs.Option.{option_map};
+ghost use Rattle.pg_types.specs.declared.limits.TheConstants.{FILE_MAX};
+ghost use Rattle.pg_dict.specs.DictionaryWords.{words};
 ghost use Rattle.pg_patterns.specs.Starts.{start};
+ghost use Rattle.pg_texts.specs.PattmpTexts.{is_taking_part};
+ghost use Rattle.pg_top.specs.ReadingBack.{ReadsBackPatterns};
 ghost use Rattle.pg_top.specs.Inside.selection.SelectionAccounts.{selected_cells_from};
 ghost use Rattle.pg_top.specs.Inside.selection.SelectionSigns.{HasSigns};
 ghost use Rattle.pg_top.specs.Inside.selection.SelectedRuns.{IsNew, TellsSelection, HasSelected};
 ghost use Rattle.pg_driver.specs.Inside.records.RunAccounts.{TellsCells};
 ghost use Rattle.pg_top.specs.Inside.selection.Runs.{last_layout_told};
-ghost use Rattle.pg_top.specs.Selection.{selected_text, selected_list, selected_report};
+ghost use Rattle.pg_top.specs.Selection.{selected_text, selected_list, selected_patterns, selected_report};
 
 use pg_dict::Dictionary;
 use pg_driver::{Run, generate};
 use pg_patterns::PatternSet;
 use pg_select::Engine;
+use pg_texts::laws::lists_are_read;
 use pg_texts::{pattmp_text, report_text};
 use pg_translate::Table;
 use pg_types::{Layout, Params};
@@ -64,7 +69,9 @@ pub fn last_layout(run: &Run) -> Option<Layout>
 /// The pattern file of the inputs, by their run.
 pub fn pattern_file(alloc: Global, inputs: &Inputs, run: &Run) -> Result<Vec<u8>, AllocError>
     requires { TellsSelection inputs.now run.now }
-    ensures { IfOk result (λ text. text.items ≡ selected_text inputs.now) }
+    ensures text { IfOk result (λ text. text.items ≡ selected_text inputs.now) }
+    ensures reads_back { IfOk result
+        (λ _. ReadsBackPatterns inputs.now.table (selected_patterns inputs.now)) }
 {
     run.patterns().text(alloc, &inputs.table)
 }
@@ -80,6 +87,17 @@ pub fn list_file<E: Engine>(
     ensures { IfOk result (λ text. text.items ≡ selected_list inputs.now) }
 {
     pattmp_text(alloc, engine, &inputs.dictionary, &inputs.table)
+}
+
+/// The hyphenated list of the inputs is read as the words that take part. A call does nothing.
+pub fn list_reads_back(inputs: &Inputs)
+    requires { HasSigns inputs.now }
+    ensures { length (selected_list inputs.now) ≤ FILE_MAX
+        → words inputs.now.table (selected_list inputs.now)
+        ≡ Ok (filter (is_taking_part inputs.now.table) inputs.now.dictionary) }
+{
+    lists_are_read(&inputs.table);
+    let _ = inputs.dictionary.len();
 }
 
 /// The report of the inputs, by their run.

@@ -3,8 +3,9 @@ ghost use Rattle.std.specs.Prelude.{◌≡◌, Some, map, string_bytes};
 ghost use Rattle.pg_plans.specs.Plans.{Follows};
 ghost use Rattle.pg_words.specs.Inside.CommandRequests.{asked_by, KeepsLimits};
 ghost use Rattle.pg_top.specs.Commands.{plan_of, IsRun, CallsNoFile};
+ghost use Rattle.pg_top.specs.Inside.Keeping.{KeepsPromise};
 ghost use Rattle.pg_top.specs.Inside.Requests.{plan_by};
-ghost use Rattle.pg_top.specs.Promises.{IsPromised, KeepsPromise};
+ghost use Rattle.pg_top.specs.Promises.{IsPromised};
 
 use crate::audit::audit;
 use crate::generate::generate_files;
@@ -113,7 +114,8 @@ pub fn run<F: Files, O: Sink>(alloc: Global, words: &[String], files: &mut F, ou
         (F.shown files.old, O.shown out.old) (F.shown files.new, O.shown out.new) }
     ensures uncalled { CallsNoFile (plan_of (map string_bytes words.now))
         → files.new ≡ files.old }
-    ensures promised { IsPromised words.now result (F.shown files.old) (F.shown files.new) }
+    ensures promised { IsPromised (map string_bytes words.now) result
+        (F.shown files.old) (F.shown files.new) }
 {
     run_watched(alloc, words, files, out, &Quiet)
 }
@@ -132,7 +134,8 @@ pub fn run_watched<F: Files, O: Sink, W: Watch>(
         (F.shown files.old, O.shown out.old) (F.shown files.new, O.shown out.new) }
     ensures uncalled { CallsNoFile (plan_of (map string_bytes words.now))
         → files.new ≡ files.old }
-    ensures promised { IsPromised words.now result (F.shown files.old) (F.shown files.new) }
+    ensures promised { IsPromised (map string_bytes words.now) result
+        (F.shown files.old) (F.shown files.new) }
 {
     match command(words) {
         None => answer(out, USAGE, Status::Usage, watch),

@@ -3,7 +3,7 @@ use Rattle.std.proofs.Common.{◌≡◌, ℕ, ◌&&◌, ◌++◌, Bool, true, fa
 use Rattle.std.specs.List.{list_all}
 use Rattle.std.specs.Option.{option_map}
 use Rattle.std.specs.Prelude.{if◌then◌else◌}
-use Rattle.pg_words.specs.Requests.{Request}
+use Rattle.pg_words.specs.Inside.Requests.{Request}
 use Rattle.pg_words.specs.AcceptedNames.{is_name, outputs_differ, where_accepted}
 
 -- a request where its names are accepted is made from what is asked for where they are

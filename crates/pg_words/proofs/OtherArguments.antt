@@ -1,8 +1,8 @@
 -- What arguments ask for that are not as many as their command takes.
 use Rattle.std.proofs.Common.{◌≡◌, ℕ, List, [], ◌∷◌, length, None, refl}
-use Rattle.pg_words.specs.forms.Pack.{pack_in}
-use Rattle.pg_words.specs.forms.Totals.{totals_in}
-use Rattle.pg_words.specs.forms.Prune.{prune_in}
+use Rattle.pg_words.specs.Inside.forms.Pack.{pack_in}
+use Rattle.pg_words.specs.Inside.forms.Totals.{totals_in}
+use Rattle.pg_words.specs.Inside.forms.Prune.{prune_in}
 
 pub not_for_pack : (words : List (List ℕ)) → (length words ≡ 3 → ⊥) → None ≡ pack_in words
 not_for_pack [] h = refl

@@ -2,11 +2,11 @@
 use Rattle.std.proofs.Common.{◌≡◌, ℕ, ◌<◌, ◌≤◌, nat_lt, nat_le, true, ◌&&◌, List, [], ◌∷◌, length, None, Some, refl, sym, arith}
 use Rattle.std.proofs.lemmas.Bool.Decides.{nat_tests}
 use Rattle.std.specs.Option.{option_map}
-use Rattle.pg_words.specs.Requests.{ToSweep}
+use Rattle.pg_words.specs.Inside.Requests.{ToSweep}
 use Rattle.pg_words.proofs.AcceptedRequests.{accepted_as}
 use Rattle.pg_words.specs.NumbersWithin.{number_within}
 use Rattle.pg_words.specs.AcceptedNames.{where_accepted}
-use Rattle.pg_words.specs.forms.Sweep.{sweep_in}
+use Rattle.pg_words.specs.Inside.forms.Sweep.{sweep_in}
 use Rattle.pg_types.specs.declared.limits.TheConstants.{FOLDS_MAX, FOLDS_MIN, PRICE_MAX, SETS_MAX}
 use Rattle.pg_words.specs.declared.limits.TheConstants.{FOLDS_DIGITS, PRICE_DIGITS}
 

@@ -2,3 +2,6 @@
 pub mod Names
 pub mod Numbers
 pub mod CommandRequests
+pub mod forms
+pub mod Requests
+pub mod Commands

@@ -1,7 +1,7 @@
 //! The arguments of a command.
 ghost use Rattle.std.specs.Prelude.{◌≡◌, ◌∷◌, IfSome};
 ghost use Rattle.std.specs.Option.{option_map};
-ghost use Rattle.pg_words.specs.Requests.{request_of};
+ghost use Rattle.pg_words.specs.Inside.Requests.{request_of};
 ghost use Rattle.pg_words.specs.Inside.Names.{arguments_of};
 ghost use Rattle.pg_words.specs.Inside.CommandRequests.{asked_by, KeepsLimits};
 

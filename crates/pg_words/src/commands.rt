@@ -1,6 +1,8 @@
-//! The commands.
+//! The commands. Their names are borrowed, and a borrowed name has an address in contracts too. So
+//! the definitions have a type of their own, `Request`, whose names are bytes, and `asked_by` leads
+//! from a command to its request.
 ghost use Rattle.std.specs.Prelude.{◌≡◌};
-ghost use Rattle.pg_words.specs.Requests.{ToPack, ToTotals, ToPrune};
+ghost use Rattle.pg_words.specs.Inside.Requests.{ToPack, ToTotals, ToPrune};
 ghost use Rattle.pg_words.specs.Inside.CommandRequests.{asked_by, pack_of, totals_request_of, prune_of};
 
 /// The names that `generate` and `audit` are given. `audit` reads the files that `generate` writes.

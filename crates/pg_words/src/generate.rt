@@ -3,9 +3,9 @@ ghost use Rattle.std.specs.Prelude.{◌≡◌, ◌≤◌, ◌<◌, ◌+◌, ◌&
 ghost use Rattle.std.specs.List.{list_all};
 ghost use Rattle.std.specs.Option.{option_map, is_none};
 ghost use Rattle.arrayvec.specs.ArrayVec.{array_vec_len};
-ghost use Rattle.pg_words.specs.Requests.{ToGenerate, ToAudit};
+ghost use Rattle.pg_words.specs.Inside.Requests.{ToGenerate, ToAudit};
 ghost use Rattle.pg_words.specs.AcceptedNames.{is_name};
-ghost use Rattle.pg_words.specs.forms.Generate.{if_asked, input_names, output_names, with_option as with_option_of, with_options as with_options_of, files_in, generate_in, audit_in};
+ghost use Rattle.pg_words.specs.Inside.forms.Generate.{if_asked, input_names, output_names, with_option as with_option_of, with_options as with_options_of, files_in, generate_in, audit_in};
 ghost use Rattle.pg_words.specs.Inside.Names.{texts, arguments_of};
 ghost use Rattle.pg_words.specs.Inside.CommandRequests.{name_now, texts_of, asked_by, KeepsLimits};
 

@@ -1,8 +1,8 @@
 //! The arguments of `prune`.
 ghost use Rattle.std.specs.Prelude.{◌≡◌, IfSome};
 ghost use Rattle.std.specs.Option.{option_map};
-ghost use Rattle.pg_words.specs.Requests.{ToPrune};
-ghost use Rattle.pg_words.specs.forms.Prune.{prune_in};
+ghost use Rattle.pg_words.specs.Inside.Requests.{ToPrune};
+ghost use Rattle.pg_words.specs.Inside.forms.Prune.{prune_in};
 ghost use Rattle.pg_words.specs.Inside.Names.{arguments_of};
 ghost use Rattle.pg_words.specs.Inside.CommandRequests.{asked_by, KeepsLimits};
 

@@ -1,9 +1,9 @@
 //! The arguments of `sweep`.
 ghost use Rattle.std.specs.Prelude.{◌≡◌, ◌≤◌, [], ◌∷◌, length, IfSome};
 ghost use Rattle.std.specs.Option.{option_map};
-ghost use Rattle.pg_words.specs.Requests.{ToSweep};
+ghost use Rattle.pg_words.specs.Inside.Requests.{ToSweep};
 ghost use Rattle.pg_words.specs.AcceptedNames.{where_accepted as where_accepted_of};
-ghost use Rattle.pg_words.specs.forms.Sweep.{sweep_in};
+ghost use Rattle.pg_words.specs.Inside.forms.Sweep.{sweep_in};
 ghost use Rattle.pg_words.specs.Inside.Names.{texts, arguments_of};
 ghost use Rattle.pg_words.specs.Inside.CommandRequests.{asked_by, sweep_of, sweep_inputs, KeepsSweepLimits, KeepsLimits};
 

@@ -51,15 +51,15 @@ use Rattle.pg_top.specs.PrintedLines.{usage_line}
 use Rattle.pg_top.specs.Pruning.{pruned, pruning_ended}
 use Rattle.pg_top.specs.Sampling.{sampled, sample_inputs, sample_lines, sample_text}
 use Rattle.pg_top.specs.Sweeping.{rows_ended, sets_from, swept}
-use Rattle.pg_top.specs.Theorems.{Means, OthersKept, PruneExact, AreSets, SweepExact, TotalsExact, PackExact, SampleExact}
+use Rattle.pg_top.specs.Theorems.{Means, OthersKept, PruneExact, AreSets, IsPrice, SweepExact, TotalsExact, PackExact, SampleExact}
 use Rattle.pg_top.specs.Totalling.{packed_table, totalled}
 use Rattle.pg_top.proofs.sample.SampleWords.{sample_accepted}
 use Rattle.pg_top.proofs.theorems.MeantInputs.{IsNoRefusal, came_from}
 use Rattle.pg_top.proofs.theorems.RunLaws.{Runs, no_command, Judges, done_is, done_no_refusal}
-use Rattle.pg_top.proofs.theorems.WrittenFiles.{both, get_kept, not_contained, all_written}
+use Rattle.pg_top.proofs.theorems.WrittenFiles.{Writing, names_of, both, get_kept, not_contained, all_written}
 
 -- a call whose names are accepted
-accepted_case : (inputs outputs : List (List ℕ)) (plan : Plan) (status : Status) (old new : Moment) → ¬ (status ≡ Usage) → ¬ (status ≡ Fault)
+pub accepted_case : (inputs outputs : List (List ℕ)) (plan : Plan) (status : Status) (old new : Moment) → ¬ (status ≡ Usage) → ¬ (status ≡ Fault)
     → Runs (where_accepted inputs outputs plan) status old new → (outputs_differ outputs inputs ≡ true) × Follows plan status old new
 accepted_case inputs outputs plan status old new no_usage no_fault run =
     let names : Bool = list_all is_name (inputs ++ outputs) in
@@ -69,11 +69,15 @@ accepted_case inputs outputs plan status old new no_usage no_fault run =
       | false ↦ λ accepted h. no_command status old new no_usage no_fault h
     ] refl run
 
-done_no_usage : ¬ (Done ≡ Usage)
+pub done_no_usage : ¬ (Done ≡ Usage)
 done_no_usage e = cc
 
-done_no_fault : ¬ (Done ≡ Fault)
+pub done_no_fault : ¬ (Done ≡ Fault)
 done_no_fault e = cc
+
+-- every other file is as before
+others_kept : (ws : Writing) (x y : FileMap) → y ≡ after_all x ws → OthersKept x y (names_of ws)
+others_kept ws x y is name apart = ap (λ (files : FileMap). fin.get files name) is ∙ get_kept ws x name (not_contained name (names_of ws) apart)
 
 -- totals
 pub totals_exact : TotalsExact
@@ -106,14 +110,16 @@ prune_exact d p o t r old new run =
       one.0,
       two.0,
       three.0,
-      found.patterns,
       one.1,
       two.1,
       three.1,
-      ap (λ (files : FileMap). fin.get files o) three.2.1 ∙ there.0,
-      pruned_part m three.0 two.0,
-      pruned_alike m three.0 two.0,
-      pruned_least m three.0 two.0,
+      record { part = pruned_part m three.0 two.0; alike = pruned_alike m three.0 two.0; least = pruned_least m three.0 two.0 },
+      record {
+        patterns = ap (λ (files : FileMap). fin.get files o) three.2.1 ∙ there.0;
+        report = ap (λ (files : FileMap). fin.get files r) three.2.1 ∙ there.1.0;
+        others = others_kept ws x y three.2.1;
+        line = three.2.2;
+      },
     )) (done_is (pruned d p o t r) old new case.1)
 
 -- pack: where it is done the table is not too long
@@ -145,7 +151,8 @@ pack_exact p t o old new run =
       one.1,
       two.1,
       ap (λ (files : FileMap). fin.get files o) ends.1 ∙ there.0,
-      (λ name apart. ap (λ (files : FileMap). fin.get files name) ends.1 ∙ get_kept ws x name (not_contained name (o ∷ []) apart)),
+      others_kept ws x y ends.1,
+      ends.2,
     )) (done_is (packed p t o) old new case.1)
 
 -- sweep: the sets are read one after the other
@@ -164,19 +171,22 @@ as_many x (name ∷ names) [] are = absurd are
 as_many x (name ∷ names) (A ∷ As) are = let rest : length As ≡ length names = as_many x names As are.1 in omega (arith, rest)
 
 -- what is asked for by a call of `sweep`
-pub record Asked (d p o t : List ℕ) (params : List (List ℕ)) (old new : Moment) : Type 0 where
+pub record Asked (d p o t k b m : List ℕ) (params : List (List ℕ)) (old new : Moment) : Type 0 where
   pub folds : ℕ
   pub bad : ℕ
   pub missed : ℕ
+  pub number : number_within FOLDS_DIGITS FOLDS_MIN FOLDS_MAX k ≡ Some folds
+  pub bad_price : IsPrice b bad
+  pub missed_price : IsPrice m missed
   pub some : 1 ≤ length params
   pub differ : outputs_differ (o ∷ []) (d ∷ p ∷ t ∷ params) ≡ true
   pub follows : Follows (swept d p o t folds bad missed params) Done old new
 
-number_case : (n : Option ℕ) (plan : ℕ → Option Plan) (old new : Moment) → Runs (option_and_then plan n) Done old new → (k : ℕ) × Runs (plan k) Done old new
+number_case : (n : Option ℕ) (plan : ℕ → Option Plan) (old new : Moment) → Runs (option_and_then plan n) Done old new → (k : ℕ) × Runs (plan k) Done old new × (n ≡ Some k)
 number_case None plan old new run = no_command Done old new done_no_usage done_no_fault run
-number_case (Some k) plan old new run = (k, run)
+number_case (Some k) plan old new run = (k, run, refl)
 
-sweep_case : (d p o t k b m : List ℕ) (params : List (List ℕ)) (old new : Moment) → IsRun (codes "sweep" ∷ d ∷ p ∷ o ∷ t ∷ k ∷ b ∷ m ∷ params) Done old new → Asked d p o t params old new
+sweep_case : (d p o t k b m : List ℕ) (params : List (List ℕ)) (old new : Moment) → IsRun (codes "sweep" ∷ d ∷ p ∷ o ∷ t ∷ k ∷ b ∷ m ∷ params) Done old new → Asked d p o t k b m params old new
 sweep_case d p o t k b m params old new run =
     let few : Bool = nat_le 1 (length params) && nat_le (length params) SETS_MAX in
     let plan : ℕ → ℕ → ℕ → Option Plan = λ folds bad missed. if few then where_accepted (d ∷ p ∷ t ∷ params) (o ∷ []) (swept d p o t folds bad missed params) else None in
@@ -184,13 +194,16 @@ sweep_case d p o t k b m params old new run =
     (λ folds. option_and_then (λ bad. option_and_then (plan folds bad) (number_within PRICE_DIGITS 1 PRICE_MAX m)) (number_within PRICE_DIGITS 1 PRICE_MAX b)) old new run in
     let two = number_case (number_within PRICE_DIGITS 1 PRICE_MAX b) (λ bad. option_and_then (plan one.0 bad) (number_within PRICE_DIGITS 1 PRICE_MAX m)) old new one.1 in
     let three = number_case (number_within PRICE_DIGITS 1 PRICE_MAX m) (plan one.0 two.0) old new two.1 in
-    elim few as (λ f. few ≡ f → Runs (if f then where_accepted (d ∷ p ∷ t ∷ params) (o ∷ []) (swept d p o t one.0 two.0 three.0 params) else None) Done old new → Asked d p o t params old new) [
+    elim few as (λ f. few ≡ f → Runs (if f then where_accepted (d ∷ p ∷ t ∷ params) (o ∷ []) (swept d p o t one.0 two.0 three.0 params) else None) Done old new → Asked d p o t k b m params old new) [
       | true ↦ λ is h.
           let case = accepted_case (d ∷ p ∷ t ∷ params) (o ∷ []) (swept d p o t one.0 two.0 three.0 params) Done old new done_no_usage done_no_fault h in
           record {
             folds = one.0;
             bad = two.0;
             missed = three.0;
+            number = one.2;
+            bad_price = two.2;
+            missed_price = three.2;
             some = leb-true 1 (length params) (both (nat_le 1 (length params)) (nat_le (length params) SETS_MAX) is).0;
             differ = case.0;
             follows = case.1;
@@ -216,21 +229,23 @@ sweep_exact d p o t k b m params old new run =
     let winner = winner_of (costs_of all) in
     let count : length (costs_of all) ≡ length params = length-map all (λ (r : SweepRow). r.cost)
     ∙ length-map sets.0 (set_row (record { table = one.0; words = three.0; start = two.0; folds = case.folds }) case.bad case.missed) ∙ as_many x params sets.0 sets.1 in
-    let there = all_written ((o, sweep_file case.folds all winner) ∷ []) (d ∷ p ∷ t ∷ params) x case.differ in (
-      one.0,
+    let ws = (o, sweep_file case.folds all winner) ∷ [] in
+    let there = all_written ws (d ∷ p ∷ t ∷ params) x case.differ in (
+      record { table = one.0; words = three.0; start = two.0; folds = case.folds },
+      case.bad,
+      case.missed,
       sets.0,
-      two.0,
-      three.0,
-      case.folds,
-      all,
-      winner,
-      one.1,
+      record { table = one.1; start = two.1; words = three.1; folds = case.number },
+      case.bad_price,
+      case.missed_price,
       sets.1,
-      two.1,
-      three.1,
-      ap (λ (files : FileMap). fin.get files o) three.2.1 ∙ there.0,
-      winner_wins (costs_of all) (subst (λ n. 1 ≤ n) (sym count) case.some),
-      three.2.2,
+      record {
+        winner = winner;
+        wins = winner_wins (costs_of all) (subst (λ n. 1 ≤ n) (sym count) case.some);
+        written = ap (λ (files : FileMap). fin.get files o) three.2.1 ∙ there.0;
+        others = others_kept ws x y three.2.1;
+        line = three.2.2;
+      },
     )) (done_is (swept d p o t case.folds case.bad case.missed params) old new case.follows)
 
 -- sample
@@ -257,33 +272,37 @@ within_most digits most argument n is =
 
 -- a call that ends at once with these lines
 ends_done : (lines : List ℕ) (status : Status) (old new : Moment) → Follows (Ending Done [] lines) status old new
-    → ¬ (status ≡ Refused) × (status ≡ Done → Told old.1.text new.1.text (λ text now. now ≡ text ++ lines))
-ends_done lines status old new (inl short) = ((λ is. let e : Memory ≡ Refused = sym short.0 ∙ is in cc), λ is. let e : Memory ≡ Done = sym short.0 ∙ is in cc)
+    → ¬ (status ≡ Refused) × (new.0 ≡ old.0) × (status ≡ Done → Told old.1.text new.1.text (λ text now. now ≡ text ++ lines))
+ends_done lines status old new (inl short) =
+    ((λ is. let e : Memory ≡ Refused = sym short.0 ∙ is in cc), ap (λ (m : Moment). m.0) short.1, λ is. let e : Memory ≡ Done = sym short.0 ∙ is in cc)
 ends_done lines status old new (inr h) = elim h.1 [
-  | inl said ↦ ((λ is. let e : Done ≡ Refused = sym said.0 ∙ is in cc), λ is. said.1.text)
-  | inr part ↦ ((λ is. let e : Fault ≡ Refused = sym part.0 ∙ is in cc), λ is. let e : Fault ≡ Done = sym part.0 ∙ is in cc)
+  | inl said ↦ ((λ is. let e : Done ≡ Refused = sym said.0 ∙ is in cc), h.0, λ is. said.1.text)
+  | inr part ↦ ((λ is. let e : Fault ≡ Refused = sym part.0 ∙ is in cc), h.0, λ is. let e : Fault ≡ Done = sym part.0 ∙ is in cc)
 ]
 
-abbrev IsSampled : Status → Moment → Moment → Type 0
-IsSampled status old new = ¬ (status ≡ Refused) × (status ≡ Done → (s c : ℕ) × (W : List Word) × (words default_alphabet (sample_text s c) ≡ Ok W)
+abbrev IsSampled : List ℕ → List ℕ → Status → Moment → Moment → Type 0
+IsSampled seed count status old new = ¬ (status ≡ Refused) × (new.0 ≡ old.0) × (status ≡ Done → (s c : ℕ) × (W : List Word)
+    × (number_within SAMPLE_DIGITS 0 SEED_MAX seed ≡ Some s) × (number_within SAMPLE_DIGITS 0 COUNT_MAX count ≡ Some c) × (words default_alphabet (sample_text s c) ≡ Ok W)
     × Told old.1.text new.1.text (λ text now. now ≡ text ++ sample_lines (sample_inputs W)))
 
-unnamed : (status : Status) (old new : Moment) → Finishes [] usage_line Usage status old new → IsSampled status old new
-unnamed status old new h = elim h.1 [
-  | inl said ↦ ((λ is. let e : Usage ≡ Refused = sym said.0 ∙ is in cc), λ is. let e : Usage ≡ Done = sym said.0 ∙ is in cc)
-  | inr part ↦ ((λ is. let e : Fault ≡ Refused = sym part.0 ∙ is in cc), λ is. let e : Fault ≡ Done = sym part.0 ∙ is in cc)
+unnamed : (seed count : List ℕ) (status : Status) (old new : Moment) → Finishes [] usage_line Usage status old new → IsSampled seed count status old new
+unnamed seed count status old new h = elim h.1 [
+  | inl said ↦ ((λ is. let e : Usage ≡ Refused = sym said.0 ∙ is in cc), h.0, λ is. let e : Usage ≡ Done = sym said.0 ∙ is in cc)
+  | inr part ↦ ((λ is. let e : Fault ≡ Refused = sym part.0 ∙ is in cc), h.0, λ is. let e : Fault ≡ Done = sym part.0 ∙ is in cc)
 ]
 
 pub sample_exact : SampleExact
-sample_exact seed count status old new run = by_seed (number_within SAMPLE_DIGITS 0 SEED_MAX seed) run
+sample_exact seed count status old new run = by_seed (number_within SAMPLE_DIGITS 0 SEED_MAX seed) refl run
   where
-    by_count : (s : ℕ) (c : Option ℕ) → number_within SAMPLE_DIGITS 0 COUNT_MAX count ≡ c → Runs (option_map (λ c. sampled s c) c) status old new → IsSampled status old new
-    by_count s None is h = unnamed status old new h
-    by_count s (Some c) is h =
-        let made = sampled_is s c (within_most SAMPLE_DIGITS COUNT_MAX count c is) in
+    by_count : (s : ℕ) (c : Option ℕ) → number_within SAMPLE_DIGITS 0 SEED_MAX seed ≡ Some s → number_within SAMPLE_DIGITS 0 COUNT_MAX count ≡ c
+        → Runs (option_map (λ c. sampled s c) c) status old new → IsSampled seed count status old new
+    by_count s None first second h = unnamed seed count status old new h
+    by_count s (Some c) first second h =
+        let made = sampled_is s c (within_most SAMPLE_DIGITS COUNT_MAX count c second) in
         let ends = ends_done (sample_lines (sample_inputs made.0)) status old new (subst (λ (plan : Plan). Follows plan status old new) made.2 h) in
-        (ends.0, λ is. (s, c, made.0, made.1, ends.1 is))
+        (ends.0, ends.1, λ is. (s, c, made.0, first, second, made.1, ends.2 is))
 
-    by_seed : (s : Option ℕ) → Runs (option_and_then (λ s. option_map (λ c. sampled s c) (number_within SAMPLE_DIGITS 0 COUNT_MAX count)) s) status old new → IsSampled status old new
-    by_seed None h = unnamed status old new h
-    by_seed (Some s) h = by_count s (number_within SAMPLE_DIGITS 0 COUNT_MAX count) refl h
+    by_seed : (s : Option ℕ) → number_within SAMPLE_DIGITS 0 SEED_MAX seed ≡ s
+        → Runs (option_and_then (λ s. option_map (λ c. sampled s c) (number_within SAMPLE_DIGITS 0 COUNT_MAX count)) s) status old new → IsSampled seed count status old new
+    by_seed None first h = unnamed seed count status old new h
+    by_seed (Some s) first h = by_count s (number_within SAMPLE_DIGITS 0 COUNT_MAX count) first refl h

@@ -1,5 +1,5 @@
 -- What comparing given files comes to.
-use Rattle.std.proofs.Common.{◌≡◌, ℕ, List, ◌∷◌, [], ◌++◌, Option, None, Some, refl, ap, subst, ◌∙◌}
+use Rattle.std.proofs.Common.{◌≡◌, ◌⊎◌, ℕ, List, ◌∷◌, [], ◌++◌, Option, None, Some, inl, inr, refl, ap, subst, ◌∙◌}
 use Rattle.std.specs.Prelude.{codes}
 use Rattle.std.specs.List.{AllByRecursion}
 use Rattle.std.specs.Option.{IsSomeAnd, option_and_then, option_map_or}
@@ -33,6 +33,19 @@ module _ (files : FileMap) (i : Inputs) where
       let text = selected_file i g.0 in
       let read : IsSomeAnd (outcome files (after g gs text)) Q = subst (λ (file : Option (List ℕ)). IsSomeAnd (option_and_then (λ bytes. outcome files (after g gs bytes)) file) Q) all.0 is in
       says_yes gs Q all.1 (subst (λ (difference : Option Difference). IsSomeAnd (outcome files (judged_by g gs difference)) Q) (equal_has_none text text refl) read)
+
+  -- the answer is yes or no
+  pub yes_or_no : (gs : List (Given × List ℕ)) (Q : Outcome → Type 0) → IsSomeAnd (outcome files (compared i gs)) Q → (o : Outcome) × ((o.answer ≡ Yes) ⊎ (o.answer ≡ No)) × Q o
+  yes_or_no [] Q is = (record { answer = Yes; writing = []; lines = codes "yes\n" }, inl refl, is)
+  yes_or_no (g ∷ gs) Q is =
+      elim (fin.get files g.1) as (λ file. IsSomeAnd (option_and_then (λ bytes. outcome files (after g gs bytes)) file) Q → (o : Outcome) × ((o.answer ≡ Yes) ⊎ (o.answer ≡ No)) × Q o) [
+        | None ↦ λ h. absurd h
+        | Some bytes ↦ λ h.
+            elim (first_false bytes (selected_file i g.0)) as (λ difference. IsSomeAnd (outcome files (judged_by g gs difference)) Q → (o : Outcome) × ((o.answer ≡ Yes) ⊎ (o.answer ≡ No)) × Q o) [
+              | None ↦ λ h. yes_or_no gs Q h
+              | Some d ↦ λ h. (record { answer = No; writing = []; lines = no_line g.0 d }, inr refl, h)
+            ] h
+      ] is
 
   -- the first that is not there, and what is known of the line of it
   pub record Denied (gs : List (Given × List ℕ)) (Q : Outcome → Type 0) : Type 0 where

@@ -1,35 +1,36 @@
 -- What is known of each call.
 use Rattle.std.proofs.Common.{◌≡◌, ◌⊎◌, ℕ, List, ◌∷◌, [], ◌++◌, Bool, true, false, not, Option, None, Some, inl, inr, refl, ap, sym, subst, ◌∙◌, if◌then◌else◌, map, MatchOption}
-use Rattle.std.specs.Prelude.{codes, ◌&&◌, ◌↔◌, IfSome}
+use Rattle.std.specs.Prelude.{codes, ◌&&◌, ◌↔◌, IfSome, All, Contains}
 use Rattle.std.specs.List.{list_all, list_any, AllByRecursion}
 use Rattle.std.specs.Option.{IsSomeAnd, option_and_then, IsSome}
 use Rattle.std.specs.FinMap as fin
-use Rattle.std.proofs.lemmas.List.Elements.{All-from_recursion, recursion_from_All}
+use Rattle.std.proofs.lemmas.List.Elements.{All-from_recursion, All-cons, All-contains, All-head, All-push, All-tail, All-weaker, Contains-append_left, Contains-push, recursion_from_All}
 use Rattle.pg_outside.specs.Content.{FileMap, FilesShown}
 use Rattle.pg_outside.specs.Faults.{Rose}
 use Rattle.pg_plans.specs.Calls.{Told}
-use Rattle.pg_plans.specs.Laws.{KeepsFiles, HasCause, IsAnswered, NoneRose}
+use Rattle.pg_plans.specs.Laws.{KeepsFiles, HasCause}
 use Rattle.pg_plans.specs.Outcomes.{Outcome, outcome, after_all}
-use Rattle.pg_plans.specs.Plans.{Moment, Plan, Ending, Finishes, Follows}
+use Rattle.pg_plans.specs.Plans.{Moment, Plan, Ending, Says, Finishes, Follows}
 use Rattle.pg_plans.specs.declared.answers.Status.{Status}
 use Rattle.pg_plans.specs.declared.answers.Status.TheVariants.{Done, Yes, No, Usage, Refused, Fault, Memory}
-use Rattle.pg_plans.proofs.Answered.{answered, answered_unless_rose}
+use Rattle.pg_plans.proofs.Answered.{answered}
 use Rattle.pg_plans.proofs.Kept.{kept_unless_done, kept_after_unread, no_usage}
 use Rattle.pg_plans.proofs.Told.{told_same, told_as, told_some, was_told}
 use Rattle.pg_steps.specs.declared.inputs.Given.{Given}
+use Rattle.pg_steps.specs.declared.inputs.Given.TheVariants as given
 use Rattle.pg_words.specs.AcceptedNames.{is_name, outputs_differ, where_accepted}
 use Rattle.pg_top.specs.Auditing.{audited, compared, is_cells}
 use Rattle.pg_top.specs.Commands.{IsRun, plan_of}
 use Rattle.pg_top.specs.Generating.{files_asked, files_of, generated, selected_lines}
-use Rattle.pg_top.specs.Orders.{Went}
+use Rattle.pg_top.specs.Orders.{Ended, Went}
 use Rattle.pg_top.specs.PrintedLines.{usage_line}
 use Rattle.pg_top.specs.Selection.{selected_file}
 use Rattle.pg_top.specs.Theorems.{HasInputs, AreTheirTexts, OthersKept, PutsLines, GenerateExact, DeniesFirst, AuditExact, AuditAccepts, EachAnswer}
 use Rattle.pg_top.specs.declared.selection.Inputs.{Inputs}
 use Rattle.pg_top.proofs.theorems.Caused.{caused, caused_finish}
-use Rattle.pg_top.proofs.theorems.Compared.{IsThere, says_yes, all_there, denied}
+use Rattle.pg_top.proofs.theorems.Compared.{IsThere, says_yes, all_there, yes_or_no, denied}
 use Rattle.pg_top.proofs.theorems.MeantInputs.{IsNoRefusal, selected_by, selected_from}
-use Rattle.pg_top.proofs.theorems.Ordered.{went}
+use Rattle.pg_top.proofs.theorems.Ordered.{went, ended}
 use Rattle.pg_top.proofs.theorems.OwnPlans.{AreOwn, own_plan}
 use Rattle.pg_top.proofs.theorems.WrittenFiles.{Writing, names_of, NotAmong, get_kept, both, not_contained, all_written, inputs_apart}
 
@@ -45,9 +46,9 @@ same_files s0 s1 is = subst (λ (s : FilesShown). KeepsFiles s0 s) (sym is) (tol
 
 -- what each answer says, of arguments with a plan and of those without one
 module _ (status : Status) (old new : Moment) where
-  answers : (plan : Option Plan) → Runs plan status old new → NoneRose old new → ¬ (status ≡ Memory) → IfSome plan (λ p. IsAnswered p status old new)
-  answers None run none enough = tt
-  answers (Some p) run none enough = answered_unless_rose p status old new run none enough
+  answers : (plan : Option Plan) → Runs plan status old new → ¬ (status ≡ Fault) → ¬ (status ≡ Memory) → IfSome plan (λ p. Ended p status old new)
+  answers None run no_fault enough = tt
+  answers (Some p) run no_fault enough = ended p status old new no_fault enough (went p status old new run)
 
   has_cause : (plan : Option Plan) → AreOwn plan → Runs plan status old new → status ≡ Fault → HasCause old new
   has_cause None own run is = caused_finish [] usage_line Usage old new (λ (e : Usage ≡ Fault). cc) (subst (λ (s : Status). Finishes [] usage_line Usage s old new) is run)
@@ -66,8 +67,8 @@ module _ (status : Status) (old new : Moment) where
   says_usage None own run is = refl
   says_usage (Some p) own run is = absurd (no_usage p old new own (subst (λ (s : Status). Follows p s old new) is run))
 
-  no_plan : (plan : Option Plan) → Runs plan status old new → plan ≡ None → (status ≡ Usage) ⊎ ((status ≡ Fault) × Rose old.1.faults new.1.faults)
-  no_plan None run is = elim run.1 [ inl said ↦ inl said.0 | inr part ↦ inr (part.0, part.1.0) ]
+  no_plan : (plan : Option Plan) → Runs plan status old new → plan ≡ None → (new.0 ≡ old.0) × Says usage_line Usage status old.1 new.1
+  no_plan None run is = run
   no_plan (Some p) run is = let e : ◌≡◌ {A = Option Plan} (Some p) None = is in cc
 
   in_order : (plan : Option Plan) → Runs plan status old new → IfSome plan (λ p. Went p status old new)
@@ -216,9 +217,11 @@ generate_exact d p o t a r options old new run = told_as old.0.held new.0.held (
 
 -- the answer of `audit` over inputs that are accepted
 judged : (d p t a : List ℕ) (gs : List (Given × List ℕ)) (status : Status) (old new : Moment) (x y : FileMap) (i : Inputs) → HasInputs x d p t a i
-    → IsSomeAnd (outcome x (audited d p t a gs)) (Judges status old new x y) → ((status ≡ Yes) ↔ AreTheirTexts x i gs) × (status ≡ No → DeniesFirst old new x i gs)
+    → IsSomeAnd (outcome x (audited d p t a gs)) (Judges status old new x y) → ((status ≡ Yes) ⊎ (status ≡ No)) × ((status ≡ Yes) ↔ AreTheirTexts x i gs) × (status ≡ No → DeniesFirst old new x i gs)
 judged d p t a gs status old new x y i has is =
-    let there : IsSomeAnd (outcome x (compared i gs)) (Judges status old new x y) = selected_by d p t a (λ j. compared j gs) x (Judges status old new x y) i has is in (
+    let there : IsSomeAnd (outcome x (compared i gs)) (Judges status old new x y) = selected_by d p t a (λ j. compared j gs) x (Judges status old new x y) i has is in
+    let either = yes_or_no x i gs (Judges status old new x y) there in (
+      (elim either.1 [ inl says ↦ inl (either.2.0 ∙ says) | inr says ↦ inr (either.2.0 ∙ says) ]),
       (
         (λ says. All-from_recursion _ gs (all_there x i gs (Judges status old new x y) (λ o q. sym q.0 ∙ says) there)),
         (λ all. let o = says_yes x i gs (Judges status old new x y) (recursion_from_All _ gs all) there in o.2.0 ∙ o.1),
@@ -248,20 +251,41 @@ audit_exact d p o t a r options status old new run no_usage no_fault enough =
       | inr (inr done) ↦ told_as old.0.held new.0.held _ _ (λ x y is. (case.0, case.1, λ i has. judged d p t a (files_of o case.0 r) status old new x y i has is)) done
     ]
 
-some_told : {X : Type 0} (h : Option X) → IsSome h → (x : X) × (h ≡ Some x)
+pub some_told : {X : Type 0} (h : Option X) → IsSome h → (x : X) × (h ≡ Some x)
 some_told None is = cc
 some_told (Some x) is = (x, refl)
 
+-- a file that is asked for among those that were written is its text
+fewer_texts : (files : FileMap) (i : Inputs) (o r : List ℕ) (written asked : List (Given × List ℕ)) → All (Contains written) asked → AreTheirTexts files i (files_of o written r)
+    → AreTheirTexts files i (files_of o asked r)
+fewer_texts files i o r written asked among all =
+    let There : Given × List ℕ → Type 0 = IsThere files i in
+    let first : Given × List ℕ = (given.Patterns, o) in
+    let last : Given × List ℕ = (given.Report, r) in
+    let rest = All-tail There first (written ++ last ∷ []) all in
+    let each : All There asked = All-weaker (Contains written) There (λ g is. All-contains There (written ++ last ∷ []) g rest (Contains-append_left written (last ∷ []) g is)) asked among in
+    All-cons There first (asked ++ last ∷ []) (All-head There first (written ++ last ∷ []) all)
+    (All-push There asked last each (All-contains There (written ++ last ∷ []) last rest (Contains-push written last)))
+
+-- an answer that is yes where nothing hinders it
+unless_hindered : (status : Status) → (¬ (status ≡ Usage) → ¬ (status ≡ Fault) → ¬ (status ≡ Memory) → status ≡ Yes) → (status ≡ Yes) ⊎ ((status ≡ Usage) ⊎ ((status ≡ Fault) ⊎ (status ≡ Memory)))
+unless_hindered Usage is = inr (inl refl)
+unless_hindered Fault is = inr (inr (inl refl))
+unless_hindered Memory is = inr (inr (inr refl))
+unless_hindered Yes is = inl refl
+unless_hindered Done is = inl (is (λ (e : Done ≡ Usage). cc) (λ (e : Done ≡ Fault). cc) (λ (e : Done ≡ Memory). cc))
+unless_hindered No is = inl (is (λ (e : No ≡ Usage). cc) (λ (e : No ≡ Fault). cc) (λ (e : No ≡ Memory). cc))
+unless_hindered Refused is = inl (is (λ (e : Refused ≡ Usage). cc) (λ (e : Refused ≡ Fault). cc) (λ (e : Refused ≡ Memory). cc))
+
 pub audit_accepts : AuditAccepts
-audit_accepts d p o t a r options status old mid next new generates audits files after now told denies =
+audit_accepts d p o t a r options own status old mid next new generates audits among files after now told = unless_hindered status (λ no_usage no_fault enough.
     let P : FileMap → FileMap → Type 0 = Wrote d p o t a r options old mid in
     let before = was_told old.0.held mid.0.held P files after (wrote d p o t a r options old mid generates) in
     let w = told_some old.0.held mid.0.held P before.0 files before.1 after (wrote d p o t a r options old mid generates) in
     let last = some_told new.0.held told in
-    let judges = told_some next.0.held new.0.held _ files last.0 now last.1
-    (audit_exact d p o t a r options status next new audits (λ (e : status ≡ Usage). cc) (λ (e : status ≡ Fault). cc) (λ (e : status ≡ Memory). cc)) in
-    let same : judges.0 ≡ w.asked = let e : Some judges.0 ≡ Some w.asked = sym judges.1 ∙ w.named in cc in
-    let by : (status ≡ Yes) ↔ AreTheirTexts files w.i (files_of o w.asked r) =
-    subst (λ (asked : List (Given × List ℕ)). (status ≡ Yes) ↔ AreTheirTexts files w.i (files_of o asked r)) same (judges.2 w.i (inputs_kept d p o t a r options old mid before.0 files w)).0 in
-    let says : status ≡ Yes = by.1 (given_written d p o t a r options old mid before.0 files w) in
-    cc
+    let judges = told_some next.0.held new.0.held _ files last.0 now last.1 (audit_exact d p o t a r own status next new audits no_usage no_fault enough) in
+    let of_written : IfSome (files_asked own) (λ asked. All (Contains w.asked) asked) =
+    subst (λ (written : Option (List (Given × List ℕ))). IfSome written (λ written. IfSome (files_asked own) (λ asked. All (Contains written) asked))) w.named among in
+    let of_both : All (Contains w.asked) judges.0 = subst (λ (asked : Option (List (Given × List ℕ))). IfSome asked (λ asked. All (Contains w.asked) asked)) judges.1 of_written in
+    (judges.2 w.i (inputs_kept d p o t a r options old mid before.0 files w)).1.1
+    (fewer_texts files w.i o r w.asked judges.0 of_both (given_written d p o t a r options old mid before.0 files w)))

@@ -3,9 +3,9 @@ use Rattle.std.specs.Prelude.{ℕ, List, ◌++◌}
 use Rattle.pg_plans.specs.Plans.{Plan}
 use Rattle.pg_steps.specs.declared.inputs.Given.{Given}
 use Rattle.pg_steps.specs.declared.inputs.Given.TheVariants as given
-use Rattle.pg_words.specs.Requests.{Request, ToGenerate, ToAudit, ToSample, ToPack, ToTotals, ToPrune, ToSweep}
-use Rattle.pg_words.specs.forms.Generate.{FileNames, if_asked}
-use Rattle.pg_words.specs.forms.Sweep.{SweepRequest}
+use Rattle.pg_words.specs.Inside.Requests.{Request, ToGenerate, ToAudit, ToSample, ToPack, ToTotals, ToPrune, ToSweep}
+use Rattle.pg_words.specs.Inside.forms.Generate.{FileNames, if_asked}
+use Rattle.pg_words.specs.Inside.forms.Sweep.{SweepRequest}
 use Rattle.pg_top.specs.Auditing.{audited}
 use Rattle.pg_top.specs.Generating.{generated, files_of}
 use Rattle.pg_top.specs.Packing.{packed}

@@ -14,7 +14,8 @@ use pg_steps::{Stop, read_front};
 use pg_watch::Watch;
 use std::alloc::{AllocError, Global};
 
-/// How many bytes longer than the right one a given file may be, and still be read as a whole.
+/// How many bytes longer than the right one a given file may be, and still be read as a whole. Any
+/// number would do.
 const MORE: usize = 256;
 
 /// What comparing given files gives.

@@ -7,7 +7,8 @@ ghost use Rattle.pg_top.specs.Generating.{selected_lines};
 ghost use Rattle.pg_top.specs.Inside.selection.SelectionAccounts.{work_line, selected_cells, passes_begun, last_layout as last_layout_of};
 ghost use Rattle.pg_top.specs.Inside.selection.SelectedFiles.{written_file, selected_files};
 ghost use Rattle.pg_top.specs.Inside.selection.SelectedRuns.{IsNew, TellsSelection, HasSelected};
-ghost use Rattle.pg_top.specs.Selection.{selected_text};
+ghost use Rattle.pg_top.specs.ReadingBack.{ReadsBackPatterns};
+ghost use Rattle.pg_top.specs.Selection.{selected_text, selected_patterns};
 ghost use Rattle.pg_top.specs.Inside.selection.SelectionSigns.{HasSigns, greatest_sign_of};
 ghost use Rattle.pg_steps.specs.Inside.Texts.{writing_of};
 ghost use Rattle.pg_types.specs.Lines.{lines};
@@ -96,6 +97,8 @@ fn make_files<'a, E: Engine>(
     ensures files { IfOk result (λ made.
         writing_of made.files.items ≡ selected_files (texts_of names.now) inputs.now) }
     ensures lines { IfOk result (λ made. made.lines.items ≡ selected_lines inputs.now) }
+    ensures reads_back { IfOk result
+        (λ _. ReadsBackPatterns inputs.now.table (selected_patterns inputs.now)) }
 {
     let selected = make_selected(alloc, names, inputs, engine, run)?;
     let lines = make_lines(alloc, &selected[0].text, run, inputs)?;
@@ -115,6 +118,8 @@ pub fn make_outputs<'a, W: Watch>(
     ensures files { IfOk result (λ made.
         writing_of made.files.items ≡ selected_files (texts_of names.now) inputs.now) }
     ensures lines { IfOk result (λ made. made.lines.items ≡ selected_lines inputs.now) }
+    ensures reads_back { IfOk result
+        (λ _. ReadsBackPatterns inputs.now.table (selected_patterns inputs.now)) }
 {
     watch.selects(names.patterns, &inputs.params, &inputs.start);
     let engine = PackedEngine::new(alloc, inputs.table.letters() + 1, &inputs.start)?;
@@ -139,6 +144,8 @@ fn run_files<'a, E: Engine>(
     ensures files { IfOk result (λ made.
         writing_of made.files.items ≡ selected_files (texts_of names.now) inputs.now) }
     ensures lines { IfOk result (λ made. made.lines.items ≡ selected_lines inputs.now) }
+    ensures reads_back { IfOk result
+        (λ _. ReadsBackPatterns inputs.now.table (selected_patterns inputs.now)) }
 {
     let run = select(alloc, engine, inputs)?;
     make_files(alloc, names, inputs, engine, &run)

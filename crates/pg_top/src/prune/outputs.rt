@@ -7,7 +7,7 @@ ghost use Rattle.pg_translate.specs.Alphabets.{letters_of};
 ghost use Rattle.pg_prune.specs.Prunes.{pruning_of};
 ghost use Rattle.pg_select.specs.CountedPositions.{minima_of};
 ghost use Rattle.pg_steps.specs.Inside.Texts.{ending_of, writing_of};
-ghost use Rattle.pg_top.specs.Promises.{ReadsBackPatterns};
+ghost use Rattle.pg_top.specs.ReadingBack.{ReadsBackPatterns};
 ghost use Rattle.pg_top.specs.Pruning.{pruning_ended, rounds_line as rounds_line_of};
 ghost use Rattle.pg_types.specs.Lines.{lines};
 

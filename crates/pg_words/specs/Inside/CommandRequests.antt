@@ -2,12 +2,12 @@
 use Rattle.std.specs.Prelude.{◌≡◌, ℕ, ◌≤◌, List, ◌∷◌, length, Option, None}
 use Rattle.std.specs.Option.{option_map}
 use denote.Ref.{Bor}
-use Rattle.pg_words.specs.forms.Generate.{FileNames}
-use Rattle.pg_words.specs.forms.Pack.{PackRequest}
-use Rattle.pg_words.specs.forms.Totals.{TotalsRequest}
-use Rattle.pg_words.specs.forms.Prune.{PruneRequest}
-use Rattle.pg_words.specs.forms.Sweep.{SweepRequest}
-use Rattle.pg_words.specs.Requests.{Request, ToGenerate, ToAudit, ToSample, ToPack, ToTotals, ToPrune, ToSweep}
+use Rattle.pg_words.specs.Inside.forms.Generate.{FileNames}
+use Rattle.pg_words.specs.Inside.forms.Pack.{PackRequest}
+use Rattle.pg_words.specs.Inside.forms.Totals.{TotalsRequest}
+use Rattle.pg_words.specs.Inside.forms.Prune.{PruneRequest}
+use Rattle.pg_words.specs.Inside.forms.Sweep.{SweepRequest}
+use Rattle.pg_words.specs.Inside.Requests.{Request, ToGenerate, ToAudit, ToSample, ToPack, ToTotals, ToPrune, ToSweep}
 use Rattle.pg_words.specs.declared.commands.Names.{Names}
 use Rattle.pg_words.specs.declared.commands.PackNames.{PackNames}
 use Rattle.pg_words.specs.declared.commands.TotalsNames.{TotalsNames}

@@ -9,7 +9,7 @@ use Rattle.pg_top.proofs.sample.lines_after.Goals as goal
 pub returns : goal.returns
 returns c =
     let i = c.args.inputs.now in
-    let text : c.in_ok-patterns.patterns.items ≡ selected_text i = c.in_ok-patterns.ensures in
+    let text : c.in_ok-patterns.patterns.items ≡ selected_text i = c.in_ok-patterns.ensures.text in
     let report : c.in_ok-report.report.items ≡ selected_report i = c.in_ok-report.ensures in
     let totals = c.totals.ensures.value ∙ ap (λ (a : Account). a.totals) c.requires.told.account ∙ totals_selected i in
     let done : c.in_ok-done.done.items ≡ done_line (selected_text i) (selected_totals i) = c.in_ok-done.ensures ∙ (λ k. done_line ((c.deref.ensures.value ∙ text) k) (totals k)) in

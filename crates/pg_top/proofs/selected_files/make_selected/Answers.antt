@@ -6,7 +6,7 @@ use Rattle.pg_texts.proofs.Layouts.{layouts_there}
 use Rattle.pg_steps.specs.declared.inputs.Given.{Given}
 use Rattle.pg_steps.specs.declared.inputs.Given.TheVariants as given
 use Rattle.pg_words.specs.Inside.CommandRequests.{name_now, texts_of}
-use Rattle.pg_words.specs.forms.Generate.{if_asked}
+use Rattle.pg_words.specs.Inside.forms.Generate.{if_asked}
 use Rattle.pg_top.specs.Selection.{selected_text, selected_list, selected_cells_text}
 use Rattle.pg_top.specs.Inside.selection.SelectedFiles.{made_files}
 use Rattle.pg_top.specs.Inside.selection.SelectionAccounts.{selected_cells}
@@ -35,7 +35,7 @@ returns g c =
     let list : Files = if_asked (name_now n.pattmp) (λ name. (given.Pattmp, name, selected_list i)) in
     let cells : Files = if_asked (name_now n.cells) (λ name. (given.Cells, name, selected_cells_text i)) in
     let first = c.in_ok-push_selected.ensures ∙ ap (λ (fs : List SelectedFile). made_files fs ++ (given.Patterns, n.output.now, c.in_ok-text.text.items) ∷ []) c.new-files.ensures.items
-    ∙ ap (λ (t : List ℕ). (given.Patterns, n.output.now, t) ∷ []) c.in_ok-text.ensures in
+    ∙ ap (λ (t : List ℕ). (given.Patterns, n.output.now, t) ∷ []) c.in_ok-text.ensures.text in
     let second : made_of c.match-names.files ≡ made_of c.push_selected.new.files ++ if_asked (name_now n.pattmp) (λ name. (given.Pattmp, name, selected_list i)) = elim c.match-names.branch [
       | in-Some+in_ok-list+in_ok-push_selected-2 w ↦ ap made_of w.files-is ∙ rw w.in-Some.is (w.in_ok-push_selected-2.ensures
           ∙ ap (λ (t : List ℕ). made_of c.push_selected.new.files ++ (given.Pattmp, w.in-Some.name.now, t) ∷ []) w.in_ok-list.ensures)
@@ -49,6 +49,9 @@ returns g c =
       | in_default-cells w ↦ ap made_of w.files-is ∙ rw w.in_default-cells.is (sym (append-nil (made_of c.match-names.files)))
     ] in
     let all = third ∙ ap (λ (fs : Files). fs ++ cells) (second ∙ ap (λ (fs : Files). fs ++ list) first) in
-    c.in_ok-push_selected-4.ensures ∙ ap (λ (fs : Files). fs ++ (given.Report, n.report.now, c.in_ok-report.report.items) ∷ []) all
-    ∙ ap (λ (t : List ℕ). (((given.Patterns, n.output.now, selected_text i) ∷ [] ++ list) ++ cells) ++ (given.Report, n.report.now, t) ∷ []) c.in_ok-report.ensures
-    ∙ in_order (texts_of n) i
+    record {
+      files = c.in_ok-push_selected-4.ensures ∙ ap (λ (fs : Files). fs ++ (given.Report, n.report.now, c.in_ok-report.report.items) ∷ []) all
+          ∙ ap (λ (t : List ℕ). (((given.Patterns, n.output.now, selected_text i) ∷ [] ++ list) ++ cells) ++ (given.Report, n.report.now, t) ∷ []) c.in_ok-report.ensures
+          ∙ in_order (texts_of n) i;
+      reads_back = c.in_ok-text.ensures.reads_back;
+    }

@@ -3,8 +3,8 @@ use Rattle.pg_steps.specs.Inside.Steps.{Begins}
 use Rattle.pg_steps.specs.Inside.Texts.{ending_of}
 use Rattle.pg_words.specs.Inside.CommandRequests.{asked_by}
 use Rattle.pg_top.specs.Commands.{CallsNoFile}
+use Rattle.pg_top.specs.Inside.Keeping.{KeepsPromise}
 use Rattle.pg_top.specs.Inside.Requests.{plan_by}
-use Rattle.pg_top.specs.Promises.{KeepsPromise}
 use Rattle.pg_top.proofs.theorems.Promised.{any_built, promised_on}
 use Rattle.pg_top.proofs.top.perform.Goals as goal
 use Rattle.pg_top.proofs.top.perform.Goals.{in-Generate, in-Pack, in-Totals, in-Prune, in-Sweep}
@@ -15,7 +15,7 @@ returns g c =
     × Begins (plan_by (asked_by c.args.command.now)) c.match-command.built ending_of (g.F.Files.shown c.args.files.now) (g.F.Files.shown c.match-command.files)
     × IfOk c.match-command.built (λ _. KeepsPromise (asked_by c.args.command.now) (g.F.Files.shown c.args.files.now) (g.F.Files.shown c.match-command.files)) =
     elim c.match-command.branch [
-      | in-Generate w ↦ rw (w.in-Generate.is, w.files-is, w.built-is) ((λ none. none), w.generate_files-built.ensures, any_built w.generate_files-built.result)
+      | in-Generate w ↦ rw (w.in-Generate.is, w.files-is, w.built-is) ((λ none. none), w.generate_files-built.ensures.begins, w.generate_files-built.ensures.promised)
       | in-Pack w ↦ rw (ap asked_by w.in-Pack.is ∙ sym w.new-names.ensures, w.files-is, w.built-is) ((λ none. none), w.pack_files-built.ensures.begins, w.pack_files-built.ensures.promised)
       | in-Totals w ↦ rw (ap asked_by w.in-Totals.is ∙ sym w.new-names-in-Totals.ensures, w.files-is, w.built-is) ((λ none. none), w.total_files-built.ensures, any_built w.total_files-built.result)
       | in-Prune w ↦ rw (ap asked_by w.in-Prune.is ∙ sym w.new-names-in-Prune.ensures, w.files-is, w.built-is) ((λ none. none), w.prune_files-built.ensures.begins, w.prune_files-built.ensures.promised)

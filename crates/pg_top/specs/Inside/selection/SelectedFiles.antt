@@ -1,7 +1,7 @@
 -- The files of a selection, as they are made.
 use Rattle.std.specs.Prelude.{ℕ, List, map}
 use Rattle.pg_steps.specs.declared.inputs.Given.{Given}
-use Rattle.pg_words.specs.forms.Generate.{FileNames}
+use Rattle.pg_words.specs.Inside.forms.Generate.{FileNames}
 use Rattle.pg_top.specs.Selection.{selected_file}
 use Rattle.pg_top.specs.Inside.Requests.{selected_names}
 use Rattle.pg_top.specs.declared.selected_files.SelectedFile.{SelectedFile}

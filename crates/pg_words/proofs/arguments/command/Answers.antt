@@ -1,6 +1,6 @@
 use Rattle.std.proofs.Common.{◌-◌, ◌∙◌, length, length-drop, take, drop, sym, ap, arith}
 use Rattle.std.proofs.lemmas.List.{take_all}
-use Rattle.pg_words.specs.Requests.{request_of}
+use Rattle.pg_words.specs.Inside.Requests.{request_of}
 use Rattle.pg_words.proofs.ArgumentsAt.{one_argument}
 use Rattle.pg_words.proofs.arguments.command.Goals as goal
 

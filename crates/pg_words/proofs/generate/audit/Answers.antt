@@ -4,9 +4,9 @@ use Rattle.std.specs.Option.{option_map, option_and_then, is_none}
 use Rattle.std.specs.Prelude.{if◌then◌else◌}
 use denote.Ref.{Bor}
 use Rattle.pg_words.specs.Inside.CommandRequests.{asked_by, name_now, texts_of}
-use Rattle.pg_words.specs.Requests.{ToAudit}
+use Rattle.pg_words.specs.Inside.Requests.{ToAudit}
 use Rattle.pg_words.specs.AcceptedNames.{is_name}
-use Rattle.pg_words.specs.forms.Generate.{FileNames, input_names, output_names}
+use Rattle.pg_words.specs.Inside.forms.Generate.{FileNames, input_names, output_names}
 use Rattle.pg_words.proofs.generate.audit.Goals as goal
 
 -- the names, where `audit` takes them

@@ -2,9 +2,9 @@ use Rattle.std.proofs.Common.{Option, ◌∙◌, ap}
 use Rattle.std.specs.Option.{option_map, option_and_then}
 use Rattle.pg_words.specs.Inside.CommandRequests.{texts_of}
 use Rattle.pg_words.specs.Inside.Names.{texts}
-use Rattle.pg_words.specs.Requests.{ToGenerate}
+use Rattle.pg_words.specs.Inside.Requests.{ToGenerate}
 use Rattle.pg_words.specs.AcceptedNames.{where_accepted}
-use Rattle.pg_words.specs.forms.Generate.{FileNames, input_names, output_names}
+use Rattle.pg_words.specs.Inside.forms.Generate.{FileNames, input_names, output_names}
 use Rattle.pg_words.proofs.AcceptedRequests.{accepted_as}
 use Rattle.pg_words.proofs.generate.generate.Goals as goal
 

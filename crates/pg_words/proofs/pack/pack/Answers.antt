@@ -3,8 +3,8 @@ use Rattle.std.proofs.lemmas.List.{length-map}
 use Rattle.std.specs.Prelude.{string_bytes}
 use Rattle.pg_words.specs.Inside.Names.{arguments_of}
 use Rattle.std.specs.Option.{option_map}
-use Rattle.pg_words.specs.Requests.{ToPack}
-use Rattle.pg_words.specs.forms.Pack.{pack_in}
+use Rattle.pg_words.specs.Inside.Requests.{ToPack}
+use Rattle.pg_words.specs.Inside.forms.Pack.{pack_in}
 use Rattle.pg_words.proofs.AcceptedRequests.{accepted_as}
 use Rattle.pg_words.proofs.OtherArguments.{not_for_pack}
 use Rattle.pg_words.proofs.ArgumentsAt.{three_arguments}

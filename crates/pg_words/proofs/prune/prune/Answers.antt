@@ -3,8 +3,8 @@ use Rattle.std.proofs.lemmas.List.{length-map}
 use Rattle.std.specs.Prelude.{string_bytes}
 use Rattle.pg_words.specs.Inside.Names.{arguments_of}
 use Rattle.std.specs.Option.{option_map}
-use Rattle.pg_words.specs.Requests.{ToPrune}
-use Rattle.pg_words.specs.forms.Prune.{prune_in}
+use Rattle.pg_words.specs.Inside.Requests.{ToPrune}
+use Rattle.pg_words.specs.Inside.forms.Prune.{prune_in}
 use Rattle.pg_words.proofs.AcceptedRequests.{accepted_as}
 use Rattle.pg_words.proofs.OtherArguments.{not_for_prune}
 use Rattle.pg_words.proofs.ArgumentsAt.{five_arguments}

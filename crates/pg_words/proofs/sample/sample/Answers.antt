@@ -3,8 +3,8 @@ use Rattle.std.specs.Option.{option_and_then, option_map}
 use Rattle.pg_words.specs.declared.limits.TheConstants.{SEED_MAX, COUNT_MAX, SAMPLE_DIGITS}
 use Rattle.pg_words.specs.Inside.CommandRequests.{asked_by}
 use Rattle.pg_words.specs.NumbersWithin.{number_within}
-use Rattle.pg_words.specs.Requests.{Request, ToSample}
-use Rattle.pg_words.specs.forms.Sample.{sample_in}
+use Rattle.pg_words.specs.Inside.Requests.{Request, ToSample}
+use Rattle.pg_words.specs.Inside.forms.Sample.{sample_in}
 use Rattle.pg_words.proofs.ArgumentsAt.{two_arguments}
 use Rattle.pg_words.proofs.sample.sample.Goals as goal
 

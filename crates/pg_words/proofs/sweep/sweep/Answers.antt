@@ -4,8 +4,8 @@ use Rattle.std.specs.Prelude.{string_bytes}
 use Rattle.std.proofs.lemmas.List.{length-map, take_all}
 use Rattle.pg_words.specs.Inside.CommandRequests.{asked_by}
 use Rattle.pg_words.specs.Inside.Names.{arguments_of}
-use Rattle.pg_words.specs.Requests.{ToSweep}
-use Rattle.pg_words.specs.forms.Sweep.{sweep_in}
+use Rattle.pg_words.specs.Inside.Requests.{ToSweep}
+use Rattle.pg_words.specs.Inside.forms.Sweep.{sweep_in}
 use Rattle.pg_types.specs.declared.limits.TheConstants.{SETS_MAX}
 use Rattle.pg_words.proofs.SweepParts.{too_few, no_folds, no_bad, no_missed, is_count, all_within}
 use Rattle.pg_words.proofs.ArgumentsAt.{seven_arguments}

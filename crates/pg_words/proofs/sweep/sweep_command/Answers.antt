@@ -1,7 +1,7 @@
 use Rattle.std.proofs.Common.{[], ◌∷◌, ◌∙◌, ap}
 use Rattle.pg_words.specs.Inside.CommandRequests.{sweep_of}
 use Rattle.pg_words.specs.Inside.Names.{texts}
-use Rattle.pg_words.specs.Requests.{ToSweep}
+use Rattle.pg_words.specs.Inside.Requests.{ToSweep}
 use Rattle.pg_words.specs.AcceptedNames.{where_accepted}
 use Rattle.pg_words.proofs.sweep.sweep_command.Goals as goal
 

@@ -1,7 +1,7 @@
 use Rattle.std.proofs.Common.{◌∙◌, ap, subst}
 use Rattle.std.proofs.lemmas.Result.{IfOk-weaker}
 use Rattle.pg_prune.specs.Prunes.{Pruning}
-use Rattle.pg_top.specs.Promises.{ReadsBackPatterns}
+use Rattle.pg_top.specs.ReadingBack.{ReadsBackPatterns}
 use Rattle.pg_top.specs.Pruning.{pruning_ended}
 use Rattle.pg_top.proofs.prune.outputs.make_prune.Goals as goal
 

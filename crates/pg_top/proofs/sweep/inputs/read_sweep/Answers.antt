@@ -10,7 +10,7 @@ use Rattle.pg_steps.proofs.Stopping.{stops}
 use Rattle.pg_words.specs.Inside.CommandRequests.{sweep_of}
 use Rattle.pg_translate.specs.Alphabets.{Alphabet}
 use Rattle.pg_sweep.specs.Sweeps.{Terms}
-use Rattle.pg_words.specs.forms.Sweep.{SweepRequest}
+use Rattle.pg_words.specs.Inside.forms.Sweep.{SweepRequest}
 use Rattle.pg_top.proofs.sweep.inputs.read_sweep.Goals as goal
 
 -- what is read behind the sets

@@ -2,12 +2,12 @@
 use Rattle.std.specs.Prelude.{ℕ, if◌then◌else◌, List, [], ◌∷◌, Option, None, codes}
 use Rattle.std.specs.Option.{option_map}
 use Rattle.std.specs.Str.{bytes_eq}
-use Rattle.pg_words.specs.forms.Generate.{FileNames, generate_in, audit_in}
-use Rattle.pg_words.specs.forms.Sample.{sample_in}
-use Rattle.pg_words.specs.forms.Pack.{PackRequest, pack_in}
-use Rattle.pg_words.specs.forms.Totals.{TotalsRequest, totals_in}
-use Rattle.pg_words.specs.forms.Prune.{PruneRequest, prune_in}
-use Rattle.pg_words.specs.forms.Sweep.{SweepRequest, sweep_in}
+use Rattle.pg_words.specs.Inside.forms.Generate.{FileNames, generate_in, audit_in}
+use Rattle.pg_words.specs.Inside.forms.Sample.{sample_in}
+use Rattle.pg_words.specs.Inside.forms.Pack.{PackRequest, pack_in}
+use Rattle.pg_words.specs.Inside.forms.Totals.{TotalsRequest, totals_in}
+use Rattle.pg_words.specs.Inside.forms.Prune.{PruneRequest, prune_in}
+use Rattle.pg_words.specs.Inside.forms.Sweep.{SweepRequest, sweep_in}
 
 -- what arguments ask for: names of files, and for `sample` its seed and how many words it makes
 pub data Request : Type 0 where
