@@ -85,12 +85,11 @@ def in_short(results, name):
 
 def short_rows(rows):
     """The table of the page."""
-    yield "| Language | Letters | Words | Five levels | Eight levels | Not needed |"
-    yield "|---|---|---|---|---|---|"
+    yield "| Language | Five levels | Eight levels | Not needed |"
+    yield "|---|---|---|---|"
     for words, results in rows:
-        made, share_of = results["words"], re.search(r"\((\d+ %)\)", not_needed(results))
-        yield (f"| {words.name} | {made['letters']} | {number(made['words'])} | {in_short(results, 'five')} | {in_short(results, 'eight')} | "
-               f"{share_of[1] if share_of else ''} |")
+        share_of = re.search(r"\((\d+ %)\)", not_needed(results))
+        yield f"| {words.name} | {in_short(results, 'five')} | {in_short(results, 'eight')} | {share_of[1] if share_of else ''} |"
 
 
 def language_rows(rows):
