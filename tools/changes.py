@@ -7,10 +7,6 @@ import os
 import hyphenation
 import releases
 
-# How `check-list` begins what it calls a fault.
-FAULTS = ("begin with a blank", "have words behind a blank", "have two marks side by side", "have a mark before",
-          "stand there again with other hyphens", "words, and none of them has a hyphen")
-
 
 class Folder:
     """A repository of patterns: its facts, its release and the files that the manifest names."""

@@ -15,6 +15,11 @@ import tempfile
 
 HERE = os.path.dirname(os.path.realpath(__file__))
 BYTE_ORDER_MARK = b"\xef\xbb\xbf"
+# What `check-list` calls a fault.
+LIST_FAULTS = ("begin with a blank, so they are no words", "have words behind a blank, which are not read",
+               "have two marks side by side, of which the last counts",
+               "have a mark before the first letter or behind the last one, without effect", "stand there again with other hyphens",
+               "words, and none of them has a hyphen")
 
 
 class Trouble(Exception):
@@ -114,6 +119,13 @@ def without_byte_order_mark(data, name):
     if data.startswith(BYTE_ORDER_MARK):
         raise Trouble(f"{name} begins with a byte order mark, which sed -i '1s/^\\xEF\\xBB\\xBF//' {name} takes out")
     return data
+
+
+def refuse_tex(data, name):
+    """Refuses a TeX file."""
+    found = re.search(rb"^[^%\n]*(\\(?:patterns|hyphenation|input|endinput)\b)", data, re.M)
+    if found:
+        raise Trouble(f"{name} is a TeX file, since it has {found[1].decode()}: untex {name} takes its patterns out")
 
 
 class Table:
@@ -233,7 +245,7 @@ class Word:
         return number(self.weight) + self.line
 
     def plain(self, table):
-        """The word as a line of a dictionary, with hyphens and doubtful places, but without weights."""
+        """The word as a line of a dictionary, with hyphens and don't-care positions, but without weights."""
         return self.line_with(table, self.hyphens(table), {})
 
     def spelled(self, table):
@@ -241,8 +253,8 @@ class Word:
         return [spelling for spelling, *_ in table.items(table.word_item, self.line, "the word") if spelling]
 
     def line_with(self, table, hyphens, weights, letters=None):
-        """The word as a line of a dictionary, with these hyphens and weights of places, and with its doubtful places. The letters are the
-        first spellings, or those that are given."""
+        """The word as a line of a dictionary, with these hyphens and weights of places, and with its don't-care positions. The letters
+        are the first spellings, or those that are given."""
         letters = letters or [table.first(sign) for sign in self.signs]
         unsure = self.at(table, table.unsure)
         mark = lambda at: table.missed if at in hyphens else table.unsure if at in unsure else b""
@@ -288,6 +300,7 @@ def words_of(table, data, name):
 def entries_of(table, data, name):
     """The patterns of a pattern file as a map: from signs and the number of signs before a digit to the digit."""
     entries = {}
+    refuse_tex(data, name)
     for number, line in enumerate(lines_of(without_byte_order_mark(data, name)), 1):
         signs, digits = [], {}
         for spelling, digit in table.items(table.pattern_item, line, f"{name} line {number}"):

@@ -150,9 +150,20 @@ class Release:
                 raise hyphenation.Trouble(f"{translate}: TeX has no letter of several characters, as {spelling}")
         self.patterns = [line for line in hyphenation.lines_of(hyphenation.read_bytes(patterns)) if line]
         words = hyphenation.read_bytes(exceptions) if exceptions else b""
-        self.exceptions = [line for line in hyphenation.lines_of(words) if line]
         self.hyphens = libhyphen_dic.exceptions_of(self.table, words, exceptions)
+        given = [line.split()[0] for line in hyphenation.lines_of(words) if line.strip()]
+        self.exceptions = list(map(self.in_reach, given))
+        self.out_of_reach = [word for word, kept in zip(given, self.exceptions) if word != kept]  # exceptions that lose a hyphen
         self.has_curly = any(APOSTROPHE in line for line in self.patterns) and not any(CURLY in line for line in self.patterns)
+
+    def in_reach(self, word):
+        """An exception without the hyphens that the minima forbid. LuaTeX would break at them all the same."""
+        pieces, at = word.decode().split("-"), 0
+        last, kept = sum(map(len, pieces)) - self.minima[1], ""
+        for piece in pieces[:-1]:
+            at += len(piece)
+            kept += piece + "-" * (self.minima[0] <= at <= last)
+        return (kept + pieces[-1]).encode()
 
     def doubled(self, lines):
         """Lines, and behind each one with an apostrophe the same one with the other apostrophe."""

@@ -30,7 +30,7 @@ class FromList(unittest.TestCase):
         lines = ['bar-ne--hage---as-si-stent 20', 'spi"sslede * 3 B', "b-?il"]
         with tempfile.TemporaryDirectory() as folder:
             name = os.path.join(folder, "list")
-            found, said = made(lines, "--each", name, "--doubtful=-?", "--frequency")
+            found, said = made(lines, "--each", name, "--dont-care=-?", "--frequency")
             self.assertEqual((found, len(said)), ([], 4))
             contents = []
             for at in (1, 2, 3):
@@ -44,6 +44,12 @@ class FromList(unittest.TestCase):
         self.assertEqual(made(lines, "--frequency")[0], ["a", "2b", "1c", "9d"])
         self.assertEqual(made(lines, "--frequency", "--steps", "1,2,3,4,5,6,7,8,9,10")[0], ["{10}a", "{11}b", "1c", "{11}d"])
         self.assertEqual(made(lines)[0], ["a", "b", "c", "d"])
+
+    def test_lines_that_are_left_out(self):
+        found, said = made(["a4", "gar=den", "b4", "wa-ter  the #old one", "ap[p-ple"], "--skip", "#old", "--marks", "-")
+        self.assertEqual(found, ["gar=den"])
+        self.assertEqual(said, ["from_list: 1 words", "from_list: 2 lines have 4, which is no letter in a dictionary, and are left out; the first is line 1",
+                                "from_list: 1 lines have [..], which can be read in two ways, and are left out; the first is line 5"])
 
     def test_packed_and_in_another_encoding(self):
         packed = gzip.compress("gär=ten\n".encode("latin-1"))

@@ -1,5 +1,7 @@
 """Tests of tools/libhyphen against a search like that of libhyphen, and against plain patterns. bench/libhyphen asks the library itself."""
 
+import ctypes
+import json
 import os
 import random
 import sys
@@ -10,8 +12,17 @@ sys.dont_write_bytecode = True
 sys.path.insert(0, os.path.join(os.path.dirname(os.path.abspath(__file__)), ".."))
 import hyphenation
 import libhyphen_dic
+from case import Case
 
 Trouble = hyphenation.Trouble
+
+
+def has_library():
+    """Whether libhyphen is installed."""
+    try:
+        return bool(ctypes.CDLL("libhyphen.so.0"))
+    except OSError:
+        return False
 
 
 def table_of(*lines):
@@ -99,11 +110,11 @@ class Libhyphen(unittest.TestCase):
             libhyphen_dic.Library(b"UTF-8\n")
 
     def test_lines_like_comments_and_options(self):
-        table = table_of(" 1 1", " %", *(f" {it}" for it in "LEVNXT"))
-        content = dic_of(table, "%1L\nNEXTLEVEL1\n")
-        self.assertEqual([line for line in content.split(b"\n")[4:-1] if line.startswith(b"0")], [b"0%1L", b"0NEXTLEVEL1"])
+        table = table_of(" 1 1", " %", " #", *(f" {it}" for it in "LEVNXT"))
+        content = dic_of(table, "%1L\n#1L\nNEXTLEVEL1\n")
+        self.assertEqual([line for line in content.split(b"\n")[4:-1] if line.startswith(b"0")], [b"0#1L", b"0%1L", b"0NEXTLEVEL1"])
         back = libhyphen_dic.Dic(content, "dic")
-        self.assertEqual(set(back.patterns), {"%L", "NEXTLEVEL"})
+        self.assertEqual(set(back.patterns), {"#L", "%L", "NEXTLEVEL"})
 
 
 class Back(unittest.TestCase):
@@ -114,6 +125,7 @@ class Back(unittest.TestCase):
         dic = self.read("ISO8859-1", "% a comment", "# one/more", "LEFTHYPHENMIN 3", "ä1b c", "2äb0", "", "RIGHTHYPHENMIN x")
         self.assertEqual((dic.patterns, dic.minima, dic.has_next_level), ({"#": {}, "äb": {0: 2}}, [3, 2], False))
         self.assertEqual(dic.translate(), " 3 2.-*?\n b B\n ä Ä\n".encode())
+        self.assertEqual(self.read("UTF-8", "LEFTHYPHENMIN 0", "RIGHTHYPHENMIN\t+4x", "COMPOUNDLEFTHYPHENMIN 5").minima, [2, 4])
 
     def test_what_is_not_completed(self):
         self.assertEqual(self.read("UTF-8", "1ab", "1b").incomplete(), 1)
@@ -128,6 +140,43 @@ class Back(unittest.TestCase):
                            (("UTF-8", "\xe4"), "line 2 is not in the encoding"), (("Morse",), "'Morse'"), ((), "''")):
             with self.assertRaisesRegex(Trouble, why):
                 self.read(*lines)
+
+
+class LibhyphenScript(Case):
+    def setUp(self):
+        super().setUp()
+        self.put("p", "1b\nab2c\n")
+        self.put("t", " 1 1\n a A\n b B\n c C\n d D\n")
+
+    def test_a_file_is_made(self):
+        self.prints("UTF-8\nLEFTHYPHENMIN 1\nRIGHTHYPHENMIN 1\nNEXTLEVEL\na1b\nab2c\n1b\n", "libhyphen", "p", "t")
+        for words in (["p"], ["--back", "p", "t"], ["--back", "p", "p", "t", "--exceptions", "e"]):
+            self.assertEqual(self.run_script("libhyphen", *words)[:2], (2, ""))
+
+    def test_a_file_is_read_back(self):
+        self.put("dic", "UTF-8\nLEFTHYPHENMIN 1\nRIGHTHYPHENMIN 1\n1b\nab2c\n")
+        said = self.prints("", "libhyphen", "--back", "dic", "patterns", "translate")
+        self.assertEqual(said, "libhyphen: dic is not completed: 1 of its patterns lack digits, so libhyphen may break words in another way than they say\n"
+                         "libhyphen: dic has no NEXTLEVEL, so libhyphen breaks words with an apostrophe or a hyphen by a level of its own\n")
+        self.assertEqual((self.read("patterns"), self.read("translate")), (b"ab2c\n1b\n", b" 1 1.-*?\n a A\n b B\n c C\n"))
+        self.put("dic", self.run_script("libhyphen", "p", "t")[1])
+        self.assertEqual(self.prints("", "libhyphen", "--back", "dic", "patterns", "translate"), "")
+        self.assertEqual(self.read("patterns"), b"ab2c\n1b\n")
+
+    @unittest.skipUnless(has_library(), "libhyphen0 is not installed")
+    def test_the_breaks_of_the_library(self):
+        self.put("l", "abd\nabcd\ndab\n")
+        self.put("e", "d-abc-d\n")
+        self.assertEqual(self.run_script("libhyphen", "p", "t", "--check", "l")[::2], (0, "libhyphen: 3 words, 0 differ\n"))
+        self.put("l", "abd\ndabcd\n")
+        self.put("t", " 2 1\n a A\n b B\n c C\n d D\n")
+        self.assertEqual(self.run_script("libhyphen", "p", "t", "--exceptions", "e", "--check", "l")[::2], (0, "libhyphen: 2 words, 0 differ\n"))
+        # Without the digits that the search needs, the beginning `ab` of a pattern hides `1b`.
+        self.put("dic", "UTF-8\nLEFTHYPHENMIN 1\nRIGHTHYPHENMIN 1\nNEXTLEVEL\n1b\nab2c\n")
+        status, _, said = self.run_script("libhyphen", "--back", "dic", "patterns", "translate", "--check", self.put("l", "cba\nabc\n"))
+        self.assertEqual((status, said.splitlines()[1:]), (1, ["libhyphen: abc, and has to be a-bc", "libhyphen: 2 words, 1 differ"]))
+        status, _, said = self.run_script("libhyphen", "--back", "dic", "patterns", "translate", "--check", "l", "--json")
+        self.assertEqual((status, json.loads(said.splitlines()[1])), (1, {"words": 2, "differ": 1, "differing": [{"wanted": "a-bc", "found": "abc"}]}))
 
 
 if __name__ == "__main__":
