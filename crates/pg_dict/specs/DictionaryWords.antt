@@ -13,21 +13,19 @@ use Rattle.pg_translate.specs.Gaps.{signs_of, gaps, last_number, last_mark}
 use Rattle.pg_translate.specs.LineRefusals.{of_lines}
 use Rattle.pg_dict.specs.Word.{Word}
 
--- what a word has at its positions: `plain` at the first two and the last, and at the others what
--- the gap between their two signs gives
-abbrev pub at_positions : {X : Type 0} → X → (List Token → X) → List Token → List X
-at_positions plain of_gap items = plain ∷ plain ∷ (map of_gap
-    (slice_range (gaps items) 1 (length (gaps items) - 1)) ++ plain ∷ [])
+-- the gaps at the positions of a word: none at the first two and the last, and at the others what
+-- stands between their two signs
+abbrev pub position_gaps : List Token → List (List Token)
+position_gaps items = [] ∷ [] ∷ (slice_range (gaps items) 1 (length (gaps items) - 1) ++ [] ∷ [])
 
--- the word of a line: its letters between two edges. A position has the last mark and the last
--- number of its gap: missed and found are a hyphen, and don't-care is no care
+-- the word of a line: its letters between two edges. A position has the last mark of its gap, and
+-- its last number or else the word weight: missed and found are a hyphen, and don't-care no care
 abbrev pub word_of_items : ℕ → List Token → Word
-word_of_items weight items = record {
+word_of_items weight items = let gs = position_gaps items in record {
   signs = EDGE ∷ (signs_of items ++ EDGE ∷ []);
-  hyphens = at_positions false
-      (λ gap. elim (last_mark gap) [ Missed ↦ true | Found ↦ true | other ↦ false ]) items;
-  weights = at_positions weight (last_number weight) items;
-  cares = at_positions true (λ gap. elim (last_mark gap) [ DontCare ↦ false | other ↦ true ]) items;
+  hyphens = map (λ gap. elim (last_mark gap) [ Missed ↦ true | Found ↦ true | other ↦ false ]) gs;
+  weights = map (last_number weight) gs;
+  cares = map (λ gap. elim (last_mark gap) [ DontCare ↦ false | other ↦ true ]) gs;
   weight = weight;
 }
 

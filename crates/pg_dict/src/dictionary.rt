@@ -136,8 +136,9 @@ impl Dictionary {
         if sign < before {
             return false;
         }
-        let left = usize::from(self.sites[sign - before].left / 2);
-        before < left && usize::from(len) <= left
+        let left = usize::from(self.sites[sign - before].left);
+        let needed = usize::from(len).max(before + 1);
+        2 * needed <= left
     }
 
     /// The words of a fold where `inside`, else all other words, in their order. Words are counted

@@ -51,5 +51,5 @@ pub fn files_are_read(table: &Table)
         → LinesGive table.now 1 texts all → length (text_of_lines texts) ≤ FILE_MAX
         → words table.now (text_of_lines texts) ≡ Ok all }
 {
-    let _ = table;
+    keeps_rules(table);
 }

@@ -11,6 +11,7 @@ pub mod Running
 pub mod LineEntries
 pub mod ManyEntries
 pub mod Known
+pub mod LineForms
 pub mod ReadBack
 pub mod Restored
 pub mod TextLaw

@@ -13,10 +13,10 @@ use Rattle.pg_types.specs.Inside.Signs.{is_sign}
 use Rattle.pg_translate.specs.declared.items.Place.TheVariants.{Patterns}
 use Rattle.pg_translate.specs.Alphabets.{Alphabet}
 use Rattle.pg_translate.specs.Tokens.{Token, Letter, Digit, Weight, Marked, Edge}
-use Rattle.pg_translate.specs.Cuts.{cut, tokens_of}
+use Rattle.pg_translate.specs.Inside.items.Cuts.{cut, tokens_of}
 use Rattle.pg_patterns.specs.Inside.PatternMaps.{SignsUpTo, is_entry}
 use Rattle.pg_translate.specs.Gaps.{signs_of}
-use Rattle.pg_translate.specs.LineRefusals.{line_refusal}
+use Rattle.pg_translate.specs.Inside.items.Refusing.{cut_refusal}
 use Rattle.pg_patterns.specs.Inside.EntryLines.{digit_at_dot, entry_at, entries_at, entries_of_items, entries_or_refusal, entries_from}
 use Rattle.pg_patterns.proofs.Running.{digits_from, digits_are}
 use Rattle.pg_patterns.specs.Inside.Drafts.{Draft, IsDraft, IsDotDigit, no_draft, all_digits, draft_with_sign, with_token, draft_entries, line_draft}
@@ -63,12 +63,12 @@ unless_gives f (Some s) x d y is same = cc
 -- where its draft is refused, a line is
 pub line_fails : (t : Alphabet) (line : ℕ) (text : List ℕ) (r : Refusal) → Err r ≡ line_draft t line text → entries_or_refusal t line text ≡ Err r
 line_fails t line text r is =
-    unless_fails (line_refusal Patterns line (cut t Patterns text)) (fold with_token no_draft (tokens_of (cut t Patterns text))) (entries_of_items (tokens_of (cut t Patterns text))) r is
+    unless_fails (cut_refusal Patterns line (cut t Patterns text)) (fold with_token no_draft (tokens_of (cut t Patterns text))) (entries_of_items (tokens_of (cut t Patterns text))) r is
 
 -- a line gives the entries of its draft
 pub line_gives : (t : Alphabet) (line : ℕ) (text : List ℕ) (d : Draft) → Ok d ≡ line_draft t line text → entries_or_refusal t line text ≡ Ok (draft_entries d)
 line_gives t line text d is =
-    unless_gives draft_entries (line_refusal Patterns line (cut t Patterns text)) (fold with_token no_draft (tokens_of (cut t Patterns text))) d
+    unless_gives draft_entries (cut_refusal Patterns line (cut t Patterns text)) (fold with_token no_draft (tokens_of (cut t Patterns text))) d
     (entries_of_items (tokens_of (cut t Patterns text))) is (entries_of_draft (tokens_of (cut t Patterns text)))
 
 -- what was read, and a refused line

@@ -17,13 +17,15 @@ use Rattle.pg_types.specs.Inside.reading.Parts.{both_parts}
 use Rattle.pg_translate.specs.declared.items.Place.TheVariants.{Patterns}
 use Rattle.pg_translate.specs.Alphabets.{Alphabet}
 use Rattle.pg_translate.specs.Tokens.{Token, Letter, Digit, Weight, Marked, Edge}
-use Rattle.pg_translate.specs.Cuts.{cut}
-use Rattle.pg_translate.specs.Gaps.{signs_of, gaps, last_else, last_number}
-use Rattle.pg_translate.specs.Inside.items.GapItems.{number_of}
+use Rattle.pg_translate.specs.Inside.items.Cuts.{cut}
+use Rattle.pg_translate.specs.Gaps.{signs_of, gaps, last_number}
+use Rattle.pg_translate.specs.Inside.items.GapItems.{last_else, number_of}
 use Rattle.pg_translate.specs.Inside.items.Digits.{digit_of, last_digit}
-use Rattle.pg_translate.specs.LineRefusals.{line_refusal, of_lines}
+use Rattle.pg_translate.specs.LineRefusals.{of_lines}
+use Rattle.pg_translate.specs.Inside.items.Refusing.{cut_refusal}
+use Rattle.pg_translate.specs.Inside.tables.Rules.{KeepsRules}
 use Rattle.pg_translate.proofs.ItemKinds.{is_plain, no_weight}
-use Rattle.pg_translate.proofs.ManyLines.{refusals_from, items_of, line_before}
+use Rattle.pg_translate.proofs.ManyLines.{refusals_from, line_tokens, line_before, of_lines_as}
 use Rattle.pg_patterns.specs.Values.{map_of_entries}
 use Rattle.pg_patterns.specs.Starts.{line_entries, start}
 use Rattle.pg_patterns.specs.Inside.EntryLines.{digit_at_dot, digits_at, entry_at, entries_at, entries_of_items, entries_from, joined_entries}
@@ -96,30 +98,31 @@ entries_as items plain =
 
 -- the entries of lines, the first of which has this number
 lines_as : (t : Alphabet) (line : ℕ) (texts : List (List ℕ)) → entries_from t line texts
-    ≡ unless (slice_get (refusals_from t Patterns line texts) 0) (flat_map line_entries (map (items_of t Patterns) texts))
+    ≡ unless (slice_get (refusals_from t Patterns line texts) 0) (flat_map line_entries (map (line_tokens t Patterns) texts))
 lines_as t line [] = refl
 lines_as t line (text ∷ texts) =
-    let refusal : Option Refusal = line_refusal Patterns line (cut t Patterns text) in
-    ap₂ both_parts (ap (unless refusal) (entries_as (items_of t Patterns text) (no_weight t (length text) 1 text))) (lines_as t (line + 1) texts)
-    ∙ line_before refusal (refusals_from t Patterns (line + 1) texts) (line_entries (items_of t Patterns text)) (flat_map line_entries (map (items_of t Patterns) texts))
+    let refusal : Option Refusal = cut_refusal Patterns line (cut t Patterns text) in
+    ap₂ both_parts (ap (unless refusal) (entries_as (line_tokens t Patterns text) (no_weight t (length text) 1 text))) (lines_as t (line + 1) texts)
+    ∙ line_before refusal (refusals_from t Patterns (line + 1) texts) (line_entries (line_tokens t Patterns text)) (flat_map line_entries (map (line_tokens t Patterns) texts))
 
 map_unless : (refusal : Option Refusal) (es : List ((List ℕ × ℕ) × ℕ)) → joined_entries (unless refusal es) ≡ unless refusal (map_of_entries es)
 map_unless None es = refl
 map_unless (Some r) es = refl
 
 -- the map of the lines
-pub joined_as : (t : Alphabet) (texts : List (List ℕ)) → joined_entries (entries_from t 1 texts) ≡ of_lines (λ ls. map_of_entries (flat_map line_entries ls)) t Patterns texts
-joined_as t texts =
-    ap joined_entries (lines_as t 1 texts) ∙ map_unless (slice_get (refusals_from t Patterns 1 texts) 0) (flat_map line_entries (map (items_of t Patterns) texts))
+pub joined_as : (t : Alphabet) → KeepsRules t → (texts : List (List ℕ)) → joined_entries (entries_from t 1 texts) ≡ of_lines (λ ls. map_of_entries (flat_map line_entries ls)) t Patterns texts
+joined_as t rules texts =
+    ap joined_entries (lines_as t 1 texts) ∙ map_unless (slice_get (refusals_from t Patterns 1 texts) 0) (flat_map line_entries (map (line_tokens t Patterns) texts))
+    ∙ sym (of_lines_as (λ ls. map_of_entries (flat_map line_entries ls)) t rules Patterns texts)
 
 -- the map of a file that is not too long
-start_short : (t : Alphabet) (bytes : List ℕ) → length bytes ≤ FILE_MAX → start t bytes ≡ joined_entries (entries_from t 1 (lines bytes))
-start_short t bytes few = rw (le-ltb FILE_MAX (length bytes) few) (sym (joined_as t (lines bytes)))
+start_short : (t : Alphabet) → KeepsRules t → (bytes : List ℕ) → length bytes ≤ FILE_MAX → start t bytes ≡ joined_entries (entries_from t 1 (lines bytes))
+start_short t rules bytes few = rw (le-ltb FILE_MAX (length bytes) few) (sym (joined_as t rules (lines bytes)))
 
 -- a file whose lines are read one after the other is refused as one of them is, or gives their entries
-pub start_fails : (e : ReadingError) (t : Alphabet) (bytes : List ℕ) → length bytes ≤ FILE_MAX → Fails e (entries_from t 1 (lines bytes)) → Fails e (start t bytes)
-start_fails (Refused r) t bytes few is = start_short t bytes few ∙ ap joined_entries is
-start_fails Memory t bytes few is = tt
+pub start_fails : (e : ReadingError) (t : Alphabet) → KeepsRules t → (bytes : List ℕ) → length bytes ≤ FILE_MAX → Fails e (entries_from t 1 (lines bytes)) → Fails e (start t bytes)
+start_fails (Refused r) t rules bytes few is = start_short t rules bytes few ∙ ap joined_entries is
+start_fails Memory t rules bytes few is = tt
 
-pub start_gives : (t : Alphabet) (bytes : List ℕ) (es P : List ((List ℕ × ℕ) × ℕ)) → length bytes ≤ FILE_MAX → entries_from t 1 (lines bytes) ≡ Ok es → P ≡ map_of_entries es → start t bytes ≡ Ok P
-start_gives t bytes es P few is map = start_short t bytes few ∙ ap joined_entries is ∙ ap Ok (sym map)
+pub start_gives : (t : Alphabet) → KeepsRules t → (bytes : List ℕ) (es P : List ((List ℕ × ℕ) × ℕ)) → length bytes ≤ FILE_MAX → entries_from t 1 (lines bytes) ≡ Ok es → P ≡ map_of_entries es → start t bytes ≡ Ok P
+start_gives t rules bytes es P few is map = start_short t rules bytes few ∙ ap joined_entries is ∙ ap Ok (sym map)

@@ -14,7 +14,7 @@ use Rattle.std.specs.Option.{option_map_or}
 use Rattle.pg_patterns.specs.DottedSigns.{dotted_cmp}
 use Rattle.pg_patterns.specs.Inside.DottedOrder.{dotted_total, same_dotted, dotted_ties, dotted_exact}
 use Rattle.pg_patterns.specs.Inside.Search.{is_after, begins_with, HasRank, first_value}
-use Rattle.pg_patterns.specs.Texts.{value_digit}
+use Rattle.pg_patterns.specs.Inside.PatternLines.{value_digit}
 use Rattle.pg_types.proofs.BoolFacts.{greater_is, less_left, equal_is}
 use Rattle.pg_patterns.specs.Values.{Patterns}
 use Rattle.pg_patterns.proofs.Ordered.{sorted_at, find_over, find_there, find_gap, all_before, first_before, first_at, first_not_before, sorted_drop, after_below}

@@ -19,8 +19,9 @@ use Rattle.pg_translate.specs.Gaps.{sign_of, signs_of}
 use Rattle.pg_patterns.specs.Inside.EntryLines.{digit_at_dot, entries_at, entries_of_items, entries_from}
 use Rattle.pg_patterns.proofs.Running.{digits_from, digits_are}
 use Rattle.pg_types.specs.Inside.reading.Parts.{both_parts}
-use Rattle.pg_patterns.specs.Texts.{value_digit, line_from}
-use Rattle.pg_patterns.specs.Inside.PatternLines.{pattern_line}
+use Rattle.pg_patterns.specs.Texts.{pattern_line}
+use Rattle.pg_patterns.specs.Inside.PatternLines.{value_digit, line_from}
+use Rattle.pg_patterns.proofs.LineForms.{line_as}
 use Rattle.pg_types.proofs.BoolFacts.{and_first, and_second, equal_is}
 use Rattle.pg_patterns.proofs.Sound.{entry_bounds}
 use Rattle.pg_translate.specs.declared.items.Place.TheVariants.{Patterns}
@@ -186,7 +187,7 @@ strings_read t P line (q ∷ qs) rules sound strings =
     let more = flat_map (pattern_line t P) qs in
     let read : AllByRecursion (IsPatternItem t) items = items_read t P q 0 q rules sound strings.0.signs in
     let few : length (signs_of (tokens_in items)) ≤ PATTERN_SIGNS_MAX = subst (λ x. length x ≤ PATTERN_SIGNS_MAX) (sym (signs_from t P q 0 q)) strings.0.few in
-    let text : pattern_line t P q ++ more ≡ text_of_items items ++ 10 ∷ more = ap (λ x. x ++ more) (line_text t P q 0 q) ∙ append_assoc (text_of_items items) (10 ∷ []) more in
+    let text : pattern_line t P q ++ more ≡ text_of_items items ++ 10 ∷ more = ap (λ x. x ++ more) (line_as t P q 0 q ∙ line_text t P q 0 q) ∙ append_assoc (text_of_items items) (10 ∷ []) more in
     let cut : lines (pattern_line t P q ++ more) ≡ text_of_items items ∷ lines more = ap lines text ∙ lines_of_text (text_of_items items) more (joined_unbroken t rules Patterns items read) in
     ap (entries_from t line) cut
     ∙ ap (λ x. both_parts x (entries_from t (line + 1) (lines more))) (line_is_read entries_of_items t rules Patterns line items read few ∙ ap Ok (entries_of_string t P q sound))

@@ -12,7 +12,7 @@ use Rattle.pg_patterns.specs.Inside.DottedOrder.{same_dotted, dotted_equiv, dott
 use Rattle.pg_patterns.specs.Values.{Patterns, value_of, greatest_value, map_of_entries}
 use Rattle.pg_patterns.specs.Inside.PatternMaps.{IsPatternMap, is_entry}
 use Rattle.pg_patterns.specs.Inside.EntryLines.{entry_at, entries_at}
-use Rattle.pg_patterns.specs.Texts.{with_string, strings_of}
+use Rattle.pg_patterns.specs.Inside.PatternLines.{with_string, strings_by}
 use Rattle.pg_types.proofs.BoolFacts.{and_first, equal_is}
 use Rattle.pg_patterns.proofs.Sound.{entry_bounds}
 use Rattle.pg_patterns.proofs.Joins.{only, best_upto, same_maps, joined_keeps, value_of_joined}
@@ -128,13 +128,13 @@ string_added test q (r ∷ rs) =
     twice true false c same = cc
     twice false b c same = refl
 
-string_among : (P : Patterns) (k : List ℕ × ℕ) (v : ℕ) → find dotted_cmp k P ≡ Some v → list_any (pointwise nat_eq k.0) (strings_of P) ≡ true
+string_among : (P : Patterns) (k : List ℕ × ℕ) (v : ℕ) → find dotted_cmp k P ≡ Some v → list_any (pointwise nat_eq k.0) (strings_by P) ≡ true
 string_among [] k v is = cc
 string_among (e ∷ es) k v is =
-    string_added (pointwise nat_eq k.0) e.0.0 (strings_of es)
+    string_added (pointwise nat_eq k.0) e.0.0 (strings_by es)
     ∙ elim (eq_by_cmp dotted_cmp k e.0) as (λ b. eq_by_cmp dotted_cmp k e.0 ≡ b → cond b (Some e.1) (find dotted_cmp k es) ≡ Some v
-    → (pointwise nat_eq k.0 e.0.0 || list_any (pointwise nat_eq k.0) (strings_of es)) ≡ true) [
-      | true ↦ λ tied there. ap (λ b. b || list_any (pointwise nat_eq k.0) (strings_of es)) (and_first _ _ (dotted_ties k e.0 ∙ tied))
+    → (pointwise nat_eq k.0 e.0.0 || list_any (pointwise nat_eq k.0) (strings_by es)) ≡ true) [
+      | true ↦ λ tied there. ap (λ b. b || list_any (pointwise nat_eq k.0) (strings_by es)) (and_first _ _ (dotted_ties k e.0 ∙ tied))
       | false ↦ λ apart further. or_true (pointwise nat_eq k.0 e.0.0) _ (string_among es k v further)
     ] refl is
   where
@@ -160,23 +160,23 @@ value_in_strings P k v (q ∷ qs) some bound is among =
       | false ↦ λ other further. within_of _ _ _ (value_in_strings P k v qs some bound is further) (best_right (same_dotted k) (entries_of P q) (flat_map (entries_of P) qs))
     ] refl among
 
-value_low : (P : Patterns) (k : List ℕ × ℕ) → list_all is_entry P ≡ true → value_of P k ≤ greatest_value (same_dotted k) (flat_map (entries_of P) (strings_of P))
+value_low : (P : Patterns) (k : List ℕ × ℕ) → list_all is_entry P ≡ true → value_of P k ≤ greatest_value (same_dotted k) (flat_map (entries_of P) (strings_by P))
 value_low P k sound =
-    elim (find dotted_cmp k P) as (λ o. find dotted_cmp k P ≡ o → unwrap_or o 0 ≤ greatest_value (same_dotted k) (flat_map (entries_of P) (strings_of P))) [
+    elim (find dotted_cmp k P) as (λ o. find dotted_cmp k P ≡ o → unwrap_or o 0 ≤ greatest_value (same_dotted k) (flat_map (entries_of P) (strings_by P))) [
       | None ↦ λ is. omega arith
       | Some v ↦ λ is.
           let bounds = entry_bounds (k, v) (found_entry P k v sound is) in
-          value_in_strings P k v (strings_of P) bounds.some bounds.dot is (string_among P k v is)
+          value_in_strings P k v (strings_by P) bounds.some bounds.dot is (string_among P k v is)
     ] refl
 
 same_number : (a b : ℕ) → a ≤ b → b ≤ a → a ≡ b
 same_number a b p q = omega arith
 
 -- the entries of the strings of a map, joined, are the map
-pub joined_strings : (P : Patterns) → IsPatternMap P → map_of_entries (flat_map (entries_of P) (strings_of P)) ≡ P
+pub joined_strings : (P : Patterns) → IsPatternMap P → map_of_entries (flat_map (entries_of P) (strings_by P)) ≡ P
 joined_strings P map =
-    let es = flat_map (entries_of P) (strings_of P) in
-    let of : All (IsOf P) es = strings_are_of P (strings_of P) in
+    let es = flat_map (entries_of P) (strings_by P) in
+    let of : All (IsOf P) es = strings_are_of P (strings_by P) in
     let each : All (λ (e : (List ℕ × ℕ) × ℕ). is_entry e ≡ true) es = All-weaker (IsOf P) (λ (e : (List ℕ × ℕ) × ℕ). is_entry e ≡ true) (λ e is. found_entry P e.0 e.1 map.sound is) es of in
     same_maps (map_of_entries es) P (joined_keeps es (told_all es each)) map
     (λ k. value_of_joined es k ∙ same_number _ _ (best_upto (same_dotted k) es (value_of P k) (all_upto_value P es k of)) (value_low P k map.sound))

@@ -4,7 +4,8 @@ use Rattle.std.specs.List.{filter_map, onto_first}
 use Rattle.std.proofs.lemmas.List.{append-nil}
 use Rattle.pg_types.specs.declared.marks.Mark.{Mark}
 use Rattle.pg_translate.specs.Tokens.{Token, Letter, Digit, Weight, Marked, Edge}
-use Rattle.pg_translate.specs.Gaps.{gaps, last_else}
+use Rattle.pg_translate.specs.Gaps.{gaps}
+use Rattle.pg_translate.specs.Inside.items.GapItems.{last_else}
 use Rattle.pg_translate.specs.Inside.items.Digits.{digit_of}
 use Rattle.pg_translate.proofs.Gaps.{gaps_some}
 use Rattle.pg_patterns.specs.Inside.EntryLines.{digit_at_dot, digits_at}

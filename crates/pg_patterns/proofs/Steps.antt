@@ -10,7 +10,7 @@ use Rattle.pg_types.specs.ValuesOrRefusals.{unless, refusal_at}
 use Rattle.pg_translate.specs.declared.items.Place.TheVariants.{Patterns}
 use Rattle.pg_translate.specs.Alphabets.{Alphabet}
 use Rattle.pg_translate.specs.Tokens.{Token}
-use Rattle.pg_translate.specs.Cuts.{Cut, with_item, tokens_of}
+use Rattle.pg_translate.specs.Inside.items.Cuts.{Cut, with_item, tokens_of}
 use Rattle.pg_translate.specs.Inside.items.Rests.{cut_rest}
 use Rattle.pg_translate.specs.Inside.items.Answers.{HasItem}
 use Rattle.pg_translate.specs.Gaps.{sign_of}

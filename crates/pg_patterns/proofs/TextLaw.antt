@@ -16,10 +16,12 @@ use Rattle.pg_translate.specs.LineRefusals.{of_lines}
 use Rattle.pg_patterns.specs.Values.{map_of_entries}
 use Rattle.pg_patterns.specs.Starts.{line_entries, start}
 use Rattle.pg_patterns.specs.Inside.EntryLines.{joined_entries}
-use Rattle.pg_patterns.specs.Texts.{with_string, strings_of, pattern_text}
+use Rattle.pg_patterns.specs.Texts.{strings_of, pattern_text}
+use Rattle.pg_patterns.specs.Inside.PatternLines.{with_string, strings_by}
+use Rattle.pg_patterns.proofs.Strings.{strings_as}
 use Rattle.pg_types.proofs.BoolFacts.{and_first, and_second}
 use Rattle.pg_patterns.proofs.Sound.{each_sign, entry_bounds}
-use Rattle.pg_patterns.proofs.ReadBack.{IsString, strings_read}
+use Rattle.pg_patterns.proofs.ReadBack.{IsString, entries_of, strings_read}
 use Rattle.pg_patterns.proofs.ManyEntries.{joined_as}
 use Rattle.pg_patterns.proofs.Restored.{joined_strings}
 
@@ -31,12 +33,12 @@ string_kept n q (r ∷ rs) here rest =
 both_bounds : (n : ℕ) (q : List ℕ) → All (λ s. 1 ≤ s) q → All (λ s. s ≤ n) q → All (λ s. (1 ≤ s) × (s ≤ n)) q
 both_bounds n q low high = λ k d inside. (low k d inside, high k d inside)
 
-strings_known : (n : ℕ) (P : List ((List ℕ × ℕ) × ℕ)) → list_all is_entry P ≡ true → SignsUpTo n P → AllByRecursion (IsString n) (strings_of P)
+strings_known : (n : ℕ) (P : List ((List ℕ × ℕ) × ℕ)) → list_all is_entry P ≡ true → SignsUpTo n P → AllByRecursion (IsString n) (strings_by P)
 strings_known n [] sound known = tt
 strings_known n (e ∷ es) sound known =
     let bounds = entry_bounds e (and_first _ _ sound) in
     let high : All (λ s. s ≤ n) e.0.0 = All-head (λ (e : (List ℕ × ℕ) × ℕ). All (λ s. s ≤ n) e.0.0) e es known in
-    string_kept n e.0.0 (strings_of es) (record { few = bounds.few; signs = both_bounds n e.0.0 (each_sign e.0.0 bounds.signs) high })
+    string_kept n e.0.0 (strings_by es) (record { few = bounds.few; signs = both_bounds n e.0.0 (each_sign e.0.0 bounds.signs) high })
     (strings_known n es (and_second _ _ sound) (All-tail (λ (e : (List ℕ × ℕ) × ℕ). All (λ s. s ≤ n) e.0.0) e es known))
 
 not_longer : (a b : ℕ) → b ≤ a → nat_lt a b ≡ false
@@ -48,8 +50,10 @@ pub text_reads_back : (t : Alphabet) (P : List ((List ℕ × ℕ) × ℕ)) → K
 text_reads_back t P rules map known few =
     ap (λ b. cond b (Err (refusal_at 0 PatternsTooLong 0)) (of_lines (λ ls. map_of_entries (flat_map line_entries ls)) t Patterns (lines (pattern_text t P))))
     (not_longer FILE_MAX (length (pattern_text t P)) few)
-    ∙ sym (joined_as t (lines (pattern_text t P)))
-    ∙ ap joined_entries (strings_read t P 1 (strings_of P) rules map.sound (strings_known (letters_of t + 1) P map.sound known))
+    ∙ sym (joined_as t rules (lines (pattern_text t P)))
+    ∙ ap joined_entries (strings_read t P 1 (strings_of P) rules map.sound
+    (subst (AllByRecursion (IsString (letters_of t + 1))) (sym (strings_as P)) (strings_known (letters_of t + 1) P map.sound known)))
+    ∙ ap (λ qs. Ok (map_of_entries (flat_map (entries_of P) qs))) (strings_as P)
     ∙ ap Ok (joined_strings P map)
 
 -- a text that was written from the start is a pattern file of the map

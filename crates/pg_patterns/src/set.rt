@@ -80,6 +80,7 @@ impl PatternSet {
                 column: 0,
             }));
         }
+        laws::keeps_rules(table);
         let entries = read_entries(alloc, table, bytes)?;
         Ok(PatternSet::from_entries(entries))
     }

@@ -4,8 +4,8 @@ ghost use Rattle.pg_translate.specs.Alphabets.{letters_of};
 ghost use Rattle.pg_patterns.specs.Inside.DottedOrder.{same_dotted};
 ghost use Rattle.pg_patterns.specs.Inside.PatternMaps.{IsPatternMap, SignsUpTo};
 ghost use Rattle.pg_patterns.specs.Inside.Search.{HasRank, first_value};
-ghost use Rattle.pg_patterns.specs.Texts.{value_digit, pattern_text};
-ghost use Rattle.pg_patterns.specs.Inside.PatternLines.{pattern_line};
+ghost use Rattle.pg_patterns.specs.Texts.{pattern_line, pattern_text};
+ghost use Rattle.pg_patterns.specs.Inside.PatternLines.{value_digit};
 
 use crate::dotted_signs::DottedSigns;
 use pg_translate::Table;

@@ -1,10 +1,10 @@
 -- The cut of a line is its longest list of items.
 use Rattle.std.proofs.Common.{◌≡◌, ℕ, ◌+◌, ◌-◌, ◌<◌, ◌≤◌, ◌==◌, nat_le, true, false, ◌⊎◌, inl, inr, ⊎_elim, List, [], ◌∷◌, ◌++◌, length}
-use Rattle.std.proofs.Common.{take, drop, find, slice_index, Option, Some, None, option_map, refl, sym, ap, ap₂, ◌∙◌, subst, le_refl, arith, suc, zero, nat_eq}
+use Rattle.std.proofs.Common.{map, take, drop, find, slice_index, Option, Some, None, option_map, refl, sym, ap, ap₂, ◌∙◌, subst, le_refl, arith, suc, zero, nat_eq}
 use Rattle.std.specs.List.{starts_with}
-use Rattle.std.specs.Option.{option_or}
+use Rattle.std.specs.Option.{option_or, option_map_or}
 use Rattle.std.proofs.lemmas.Bool.{and_parts, and_from, cases_Bool, true≢false, eqb-true, eq-eqb, leb-true}
-use Rattle.std.proofs.lemmas.List.{append_assoc, length-append, length-drop, length-take-le, take-append-drop, take_at}
+use Rattle.std.proofs.lemmas.List.{length-drop, length-take-le, take_at}
 use Rattle.pg_types.specs.declared.marks.Mark.{Mark}
 use Rattle.pg_types.specs.declared.marks.Mark.TheVariants.{Error, Missed, Found, DontCare}
 use Rattle.pg_translate.specs.declared.items.Place.{Place}
@@ -13,13 +13,16 @@ use Rattle.pg_translate.specs.Alphabets.{Alphabet}
 use Rattle.pg_translate.specs.Inside.spellings.Beginnings.{begins_well}
 use Rattle.pg_translate.specs.Inside.spellings.Members.{IsAmong}
 use Rattle.std.specs.Char.{is_ascii_digit}
-use Rattle.pg_translate.specs.Tokens.{Token, Letter, Digit, Weight, Marked, Edge, letter_at, digit_at, weight_at, mark_at, edge_at, item_at}
-use Rattle.pg_translate.specs.Cuts.{PlacedItem, Cut, cut_from, with_item}
-use Rattle.pg_translate.specs.Inside.items.Items.{IsItem, IsWeight, IsMark, IsCut, IsPrefix, IsLongest, items_at, text_of_items, decimal_value}
+use Rattle.pg_translate.specs.Tokens.{Token, Letter, Digit, Weight, Marked, Edge, item_at}
+use Rattle.pg_translate.specs.Inside.items.Kinds.{letter_at, digit_at, weight_at, mark_at, edge_at, item_by_kind}
+use Rattle.pg_translate.specs.Cuts.{items_from, items_of}
+use Rattle.pg_translate.specs.Inside.items.Cuts.{cut_from, with_item}
+use Rattle.pg_translate.specs.Inside.items.Items.{IsItem, IsWeight, IsMark, IsCut, IsPrefix, IsLongest, with_columns, text_of_items, decimal_value}
 use Rattle.pg_translate.specs.Inside.tables.Rules.{KeepsRules}
 use Rattle.pg_translate.proofs.Prefixes.{begins_front, begins_within}
 use Rattle.pg_translate.proofs.Firsts.{find_among, found_passes}
 use Rattle.pg_translate.proofs.Cuts.{cut_item, cut_none}
+use Rattle.pg_translate.proofs.ItemForms.{own, item_as}
 use Rattle.pg_translate.proofs.ItemLaws.{begins_spelled, item_reads}
 use Rattle.pg_translate.proofs.WeightDigits.{FindsWeight, weight_found}
 
@@ -129,7 +132,7 @@ mark_is t b bs token size found =
     record { item = subst (λ (k : Token). IsItem t Dictionary k (take size (b ∷ bs))) (sym found.token_is) byte; some = omega arith; within = omega arith }
 
 -- what begins a text as an item is one
-pub item_found : (t : Alphabet) → KeepsRules t → (place : Place) (text : List ℕ) (token : Token) (size : ℕ) → item_at t place text ≡ Some (token, size) → Reads t place text token size
+pub item_found : (t : Alphabet) → KeepsRules t → (place : Place) (text : List ℕ) (token : Token) (size : ℕ) → item_by_kind t place text ≡ Some (token, size) → Reads t place text token size
 item_found t rules place text token size h = by_place place h
   where
     letter : (place : Place) → letter_at t.spellings text ≡ Some (token, size) → Reads t place text token size
@@ -156,7 +159,7 @@ item_found t rules place text token size h = by_place place h
         let found : (token ≡ Edge) × (take size text ≡ 46 ∷ []) × (0 < size) × (size ≤ length text) = edge_found text token size h in
         record { item = rw found.0 found.1; some = found.2; within = found.3 }
 
-    by_place : (place : Place) → item_at t place text ≡ Some (token, size) → Reads t place text token size
+    by_place : (place : Place) → item_by_kind t place text ≡ Some (token, size) → Reads t place text token size
     by_place Dictionary h = ⊎_elim (λ l. letter Dictionary l) (λ rest. ⊎_elim (λ d. digit Dictionary d)
         (λ rest. ⊎_elim (λ w. weight w) (λ m. mark text m) (or_some (weight_at text) (mark_at t.marks text) (token, size) rest))
         (or_some (digit_at text) (option_or (weight_at text) (mark_at t.marks text)) (token, size) rest))
@@ -165,10 +168,10 @@ item_found t rules place text token size h = by_place place h
         (or_some (letter_at t.spellings text) (option_or (digit_at text) (edge_at text)) (token, size) h)
 
 -- no item begins a text without bytes
-pub no_item : (t : Alphabet) → KeepsRules t → (place : Place) (text : List ℕ) → length text ≤ 0 → item_at t place text ≡ None
-no_item t rules place text few = by_item (item_at t place text) refl
+pub no_item : (t : Alphabet) → KeepsRules t → (place : Place) (text : List ℕ) → length text ≤ 0 → item_by_kind t place text ≡ None
+no_item t rules place text few = by_item (item_by_kind t place text) refl
   where
-    by_item : (found : Option (Token × ℕ)) → item_at t place text ≡ found → item_at t place text ≡ None
+    by_item : (found : Option (Token × ℕ)) → item_by_kind t place text ≡ found → item_by_kind t place text ≡ None
     by_item None is = is
     by_item (Some item) is =
         let reads : Reads t place text item.0 item.1 = item_found t rules place text item.0 item.1 is in
@@ -193,87 +196,91 @@ begins_join (suc n) (b ∷ bs) more h = and_from _ _ (eq-eqb b b refl) (begins_j
 
 -- a cut that begins with an item: the item begins the line, and the rest is a cut of what follows
 cut_first : (t : Alphabet) → KeepsRules t → (place : Place) (line : List ℕ) (x : Token × List ℕ) (xs : List (Token × List ℕ)) → IsCut t place line (x ∷ xs)
-    → (item_at t place line ≡ Some (x.0, length x.1)) × (line ≡ x.1 ++ drop (length x.1) line) × IsCut t place (drop (length x.1) line) xs
+    → (item_by_kind t place line ≡ Some (x.0, length x.1)) × (line ≡ x.1 ++ drop (length x.1) line) × IsCut t place (drop (length x.1) line) xs
 cut_first t rules place line x xs cut =
     let parts : (line ≡ x.1 ++ drop (length x.1) line) × (starts_with nat_eq (drop (length x.1) line) (text_of_items xs) ≡ true) = begins_split line x.1 (text_of_items xs) cut.prefix in
-    let found : item_at t place (x.1 ++ drop (length x.1) line) ≡ Some (x.0, length x.1) = item_reads t rules place x.0 x.1 (drop (length x.1) line) cut.each.0 in
-    (subst (λ (l : List ℕ). item_at t place l ≡ Some (x.0, length x.1)) (sym parts.0) found, parts.0, record { each = cut.each.1; prefix = parts.1 })
+    let found : item_by_kind t place (x.1 ++ drop (length x.1) line) ≡ Some (x.0, length x.1) = item_reads t rules place x.0 x.1 (drop (length x.1) line) cut.each.0 in
+    (subst (λ (l : List ℕ). item_by_kind t place l ≡ Some (x.0, length x.1)) (sym parts.0) found, parts.0, record { each = cut.each.1; prefix = parts.1 })
+
+-- where no item begins a text there are no items
+pub items_none : (t : Alphabet) → KeepsRules t → (place : Place) (most column : ℕ) (text : List ℕ) → item_by_kind t place text ≡ None → items_from t place most column text ≡ []
+items_none t rules place zero column text none = refl
+items_none t rules place (suc more) column text none =
+    ap (λ (o : Option (Token × List ℕ)). option_map_or (λ item. (column, item) ∷ items_from t place more (column + length item.1) (drop (length item.1) text)) o [])
+    (item_as t rules place text ∙ ap (option_map (own text)) none)
+
+-- where one does, the items have it before those of the rest
+pub items_more : (t : Alphabet) → KeepsRules t → (place : Place) (more column : ℕ) (text : List ℕ) (token : Token) (size : ℕ) → item_by_kind t place text
+    ≡ Some (token, size) → size ≤ length text → items_from t place (suc more) column text
+    ≡ (column, (token, take size text)) ∷ items_from t place more (column + size) (drop size text)
+items_more t rules place more column text token size found within =
+    ap (λ (o : Option (Token × List ℕ)). option_map_or (λ item. (column, item) ∷ items_from t place more (column + length item.1) (drop (length item.1) text)) o [])
+    (item_as t rules place text ∙ ap (option_map (own text)) found)
+    ∙ ap (λ (n : ℕ). (column, (token, take size text)) ∷ items_from t place more (column + n) (drop n text)) (length-take-le size text within)
+
+-- items without their columns
+abbrev uncounted : List (ℕ × (Token × List ℕ)) → List (Token × List ℕ)
+uncounted items = map (λ i. i.1) items
 
 -- where no item begins the line, its longest cut is empty
-longest_none : (t : Alphabet) → KeepsRules t → (place : Place) (most column : ℕ) (line : List ℕ) → item_at t place line ≡ None → IsLongest t place column line (cut_from t place most column line)
-longest_none t rules place most column line none = record {
-  items = [];
-  cut = record { each = tt; prefix = refl };
-  items_are = ap (λ (c : Cut). c.items) is;
-  column_is = ap (λ (c : Cut). c.column) is ∙ (let same : column ≡ column + 0 = omega arith in same);
-  rest_is = sym (ap (λ (c : Cut). c.rest) is);
-  all = every;
-}
+longest_none : (t : Alphabet) → KeepsRules t → (place : Place) (line : List ℕ) → item_by_kind t place line ≡ None → IsLongest t place line []
+longest_none t rules place line none = record { cut = record { each = tt; prefix = refl }; all = every }
   where
-    is : cut_from t place most column line ≡ record { items = []; column = column; rest = line }
-    is = cut_none t place most column line none
-
     every : (other : List (Token × List ℕ)) → IsCut t place line other → IsPrefix other []
     every [] cut = ([], refl)
-    every (x ∷ xs) cut = let first : (item_at t place line ≡ Some (x.0, length x.1)) × (line ≡ x.1 ++ drop (length x.1) line)
+    every (x ∷ xs) cut = let first : (item_by_kind t place line ≡ Some (x.0, length x.1)) × (line ≡ x.1 ++ drop (length x.1) line)
         × IsCut t place (drop (length x.1) line) xs = cut_first t rules place line x xs cut in let found : Some _ ≡ None = sym first.0 ∙ none in absurd (cc)
 
 -- where an item begins the line, its longest cut has it before that of the rest
-longest_item : (t : Alphabet) → KeepsRules t → (place : Place) (more column : ℕ) (line : List ℕ) (token : Token) (size : ℕ) → item_at t place line
-    ≡ Some (token, size) → IsLongest t place (column + size) (drop size line) (cut_from t place more (column + size) (drop size line))
-    → IsLongest t place column line (cut_from t place (suc more) column line)
-longest_item t rules place more column line token size found rest = record {
-  items = (token, take size line) ∷ rest.items;
-  cut = record { each = (reads.item, rest.cut.each); prefix = begins_join size line (text_of_items rest.items) rest.cut.prefix };
-  items_are = ap (λ (c : Cut). c.items) is ∙ ap (λ (items : List PlacedItem). record { column = column; token = token } ∷ items)
-      (rest.items_are ∙ ap (λ (n : ℕ). items_at (column + n) rest.items) (sym front));
-  column_is = ap (λ (c : Cut). c.column) is ∙ rest.column_is ∙ (let same : column + size + length (text_of_items rest.items)
-      ≡ column + length (take size line ++ text_of_items rest.items) = omega (arith, length-append (take size line) (text_of_items rest.items), front) in same);
-  rest_is = sym (take-append-drop size line) ∙ ap (λ (text : List ℕ). take size line ++ text) rest.rest_is
-      ∙ sym (append_assoc (take size line) (text_of_items rest.items) (cut_from t place more (column + size) (drop size line)).rest)
-      ∙ ap (λ (c : Cut). (take size line ++ text_of_items rest.items) ++ c.rest) (sym is);
+longest_item : (t : Alphabet) → KeepsRules t → (place : Place) (line : List ℕ) (token : Token) (size : ℕ) (items : List (Token × List ℕ)) → item_by_kind t place line
+    ≡ Some (token, size) → IsLongest t place (drop size line) items → IsLongest t place line ((token, take size line) ∷ items)
+longest_item t rules place line token size items found rest = record {
+  cut = record { each = (reads.item, rest.cut.each); prefix = begins_join size line (text_of_items items) rest.cut.prefix };
   all = every;
 }
   where
     reads : Reads t place line token size
     reads = item_found t rules place line token size found
 
-    is : cut_from t place (suc more) column line ≡ with_item column token (cut_from t place more (column + size) (drop size line))
-    is = cut_item t place more column line token size found
-
-    front : length (take size line) ≡ size
-    front = length-take-le size line reads.within
-
     front_is : (text more line : List ℕ) → line ≡ text ++ more → text ≡ take (length text) line
     front_is text more line is = rw is (sym (take_at text more (length text) refl))
 
-    every : (other : List (Token × List ℕ)) → IsCut t place line other → IsPrefix other ((token, take size line) ∷ rest.items)
-    every [] cut = ((token, take size line) ∷ rest.items, refl)
+    every : (other : List (Token × List ℕ)) → IsCut t place line other → IsPrefix other ((token, take size line) ∷ items)
+    every [] cut = ((token, take size line) ∷ items, refl)
     every (x ∷ xs) cut =
-        let first : (item_at t place line ≡ Some (x.0, length x.1)) × (line ≡ x.1 ++ drop (length x.1) line) × IsCut t place (drop (length x.1) line) xs = cut_first t rules place line x xs cut in
+        let first : (item_by_kind t place line ≡ Some (x.0, length x.1)) × (line ≡ x.1 ++ drop (length x.1) line) × IsCut t place (drop (length x.1) line) xs = cut_first t rules place line x xs cut in
         let both : (x.0 ≡ token) × (length x.1 ≡ size) = same_found token x.0 size (length x.1) (sym found ∙ first.0) in
         let text : x.1 ≡ take size line = subst (λ (n : ℕ). x.1 ≡ take n line) both.1 (front_is x.1 (drop (length x.1) line) line first.1) in
         let later : IsCut t place (drop size line) xs = subst (λ (n : ℕ). IsCut t place (drop n line) xs) both.1 first.2 in
-        let more : IsPrefix xs rest.items = rest.all xs later in
+        let more : IsPrefix xs items = rest.all xs later in
         let head : (let y : Token × List ℕ = (token, take size line) in y ≡ x) = ap₂ (λ (a : Token) (b : List ℕ). let p : Token × List ℕ = (a, b) in p) (sym both.0) (sym text) in
         (more.0, ap₂ (λ (y : Token × List ℕ) (ys : List (Token × List ℕ)). y ∷ ys) head more.1)
 
 -- each line has a longest cut
-pub longest : (t : Alphabet) → KeepsRules t → (place : Place) (most column : ℕ) (line : List ℕ) → length line ≤ most → IsLongest t place column line (cut_from t place most column line)
-longest t rules place zero column line few = by_item (item_at t place line) refl
+pub longest : (t : Alphabet) → KeepsRules t → (place : Place) (most column : ℕ) (line : List ℕ) → length line ≤ most → IsLongest t place line (uncounted (items_from t place most column line))
+longest t rules place zero column line few = longest_none t rules place line (no_item t rules place line few)
+longest t rules place (suc more) column line few = by_item (longest t rules place more) (item_by_kind t place line) refl
   where
-    by_item : (found : Option (Token × ℕ)) → found ≡ item_at t place line → IsLongest t place column line (cut_from t place zero column line)
-    by_item None is = longest_none t rules place zero column line (sym is)
-    by_item (Some item) is = let reads : Reads t place line item.0 item.1 = item_found t rules place line item.0 item.1 (sym is) in let some : 0 < item.1 =
-        reads.some in let within : item.1 ≤ length line = reads.within in absurd (omega arith)
-longest t rules place (suc more) column line few = by_item (longest t rules place more) (item_at t place line) refl
-  where
-    by_item : ((column : ℕ) (line : List ℕ) → length line ≤ more → IsLongest t place column line (cut_from t place more column line)) → (found : Option (Token × ℕ))
-        → found ≡ item_at t place line → IsLongest t place column line (cut_from t place (suc more) column line)
-    by_item less None is = longest_none t rules place (suc more) column line (sym is)
-    by_item less (Some item) is = let reads : Reads t place line item.0 item.1 = item_found t rules place line item.0 item.1 (sym is) in let some : 0 < item.1 =
-        reads.some in let size : length (drop item.1 line) ≡ length line - item.1 = length-drop item.1 line in
-        longest_item t rules place more column line item.0 item.1 (sym is) (less (column + item.1) (drop item.1 line) (omega arith))
+    by_item : ((column : ℕ) (line : List ℕ) → length line ≤ more → IsLongest t place line (uncounted (items_from t place more column line))) → (found : Option (Token × ℕ))
+        → item_by_kind t place line ≡ found → IsLongest t place line (uncounted (items_from t place (suc more) column line))
+    by_item less None is = subst (λ (items : List (ℕ × (Token × List ℕ))). IsLongest t place line (uncounted items)) (sym (items_none t rules place (suc more) column line is))
+        (longest_none t rules place line is)
+    by_item less (Some item) is =
+        let reads : Reads t place line item.0 item.1 = item_found t rules place line item.0 item.1 is in
+        let some : 0 < item.1 = reads.some in
+        let size : length (drop item.1 line) ≡ length line - item.1 = length-drop item.1 line in
+        let rest : List (ℕ × (Token × List ℕ)) = items_from t place more (column + item.1) (drop item.1 line) in
+        subst (λ (items : List (ℕ × (Token × List ℕ))). IsLongest t place line (uncounted items)) (sym (items_more t rules place more column line item.0 item.1 is reads.within))
+        (longest_item t rules place line item.0 item.1 (uncounted rest) is (less (column + item.1) (drop item.1 line) (omega arith)))
+
+-- its items stand one behind the other
+pub counted : (t : Alphabet) (place : Place) (most column : ℕ) (line : List ℕ) → items_from t place most column line ≡ with_columns column (uncounted (items_from t place most column line))
+counted t place zero column line = refl
+counted t place (suc more) column line = elim (item_at t place line) as
+    (λ o. let items = option_map_or (λ item. (column, item) ∷ items_from t place more (column + length item.1) (drop (length item.1) line)) o [] in items ≡ with_columns column (uncounted items)) [
+      | None ↦ refl
+      | Some item ↦ ap (λ (items : List (ℕ × (Token × List ℕ))). (column, item) ∷ items) (counted t place more (column + length item.1) (drop (length item.1) line))
+    ]
 
 -- as many items as the text has bytes are enough
 pub cut_enough : (t : Alphabet) → KeepsRules t → (place : Place) (n m column : ℕ) (text : List ℕ) → length text ≤ n → length text ≤ m
@@ -281,10 +288,10 @@ pub cut_enough : (t : Alphabet) → KeepsRules t → (place : Place) (n m column
 cut_enough t rules place zero zero column text few short = refl
 cut_enough t rules place zero (suc m) column text few short = sym (cut_none t place (suc m) column text (no_item t rules place text (omega arith)))
 cut_enough t rules place (suc n) zero column text few short = cut_none t place (suc n) column text (no_item t rules place text (omega arith))
-cut_enough t rules place (suc n) (suc m) column text few short = by_item (cut_enough t rules place n m) (item_at t place text) refl
+cut_enough t rules place (suc n) (suc m) column text few short = by_item (cut_enough t rules place n m) (item_by_kind t place text) refl
   where
     by_item : ((column : ℕ) (text : List ℕ) → length text ≤ n → length text ≤ m → cut_from t place n column text ≡ cut_from t place m column text) → (found : Option (Token × ℕ))
-        → found ≡ item_at t place text → cut_from t place (suc n) column text ≡ cut_from t place (suc m) column text
+        → found ≡ item_by_kind t place text → cut_from t place (suc n) column text ≡ cut_from t place (suc m) column text
     by_item less None is = cut_none t place (suc n) column text (sym is) ∙ sym (cut_none t place (suc m) column text (sym is))
     by_item less (Some item) is =
         let reads : Reads t place text item.0 item.1 = item_found t rules place text item.0 item.1 (sym is) in
@@ -311,5 +318,5 @@ prefixes (x ∷ xs) (y ∷ ys) (z ∷ zs) pa pb =
 -- of two cuts of one line, one is a prefix of the other
 pub cuts_agree : (t : Alphabet) → KeepsRules t → (place : Place) (line : List ℕ) (a b : List (Token × List ℕ)) → IsCut t place line a → IsCut t place line b → IsPrefix a b ⊎ IsPrefix b a
 cuts_agree t rules place line a b cut_a cut_b =
-    let whole : IsLongest t place 1 line (cut_from t place (length line) 1 line) = longest t rules place (length line) 1 line (le_refl (length line)) in
-    prefixes a b whole.items (whole.all a cut_a) (whole.all b cut_b)
+    let whole = longest t rules place (length line) 1 line (le_refl (length line)) in
+    prefixes a b (uncounted (items_of t place line)) (whole.all a cut_a) (whole.all b cut_b)

@@ -1,14 +1,13 @@
 -- The default table keeps the rules.
-use Rattle.std.proofs.Common.{◌≡◌, ◌≢◌, ℕ, zero, suc, ◌+◌, ◌<◌, ◌≤◌, ◌==◌, Bool, true, false, not, ⊎_elim, List, [], ◌∷◌, find, Option, Some, None, option_map, refl, sym, ap, ◌∙◌, subst, arith}
+use Rattle.std.proofs.Common.{◌≡◌, ℕ, zero, suc, ◌+◌, ◌<◌, ◌≤◌, ◌==◌, Bool, true, false, not, List, [], ◌∷◌, find, Option, Some, option_map, refl, sym, ap, ◌∙◌, arith}
 use Rattle.std.specs.Prelude.{nat_lt, nat_le, cond}
 use Rattle.std.specs.List.{list_all, flat_map, range_with_len}
-use Rattle.std.proofs.lemmas.Bool.{eqb-true, eqb-false, ltb-true, leb-true}
-use Rattle.pg_translate.specs.Alphabets.{letters_of}
+use Rattle.std.proofs.lemmas.Bool.{eqb-false, ltb-true, leb-true}
 use Rattle.pg_translate.specs.Inside.spellings.FirstSpellings.{first_of}
-use Rattle.pg_translate.specs.Inside.spellings.Members.{IsAmong}
 use Rattle.pg_translate.specs.Inside.tables.Rules.{KeepsRules}
 use Rattle.pg_translate.specs.Spellings.{is_spelling, clash}
-use Rattle.pg_translate.specs.Tables.{default_alphabet, default_letter}
+use Rattle.pg_translate.specs.Tables.{default_alphabet}
+use Rattle.pg_translate.specs.Inside.tables.Checks.{default_letter}
 use Rattle.pg_translate.specs.declared.head.TheConstants.{A_TO_Z}
 use Rattle.pg_translate.proofs.RuleLaws.{list_all_at, first_is_among}
 

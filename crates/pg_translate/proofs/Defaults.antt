@@ -6,7 +6,7 @@ use Rattle.std.proofs.lemmas.List.{append_assoc}
 use Rattle.pg_translate.specs.Inside.spellings.FirstSpellings.{letters_in}
 use Rattle.pg_translate.specs.Spellings.{clash}
 use Rattle.pg_translate.specs.declared.head.TheConstants.{A_TO_Z}
-use Rattle.pg_translate.specs.Tables.{default_letter}
+use Rattle.pg_translate.specs.Inside.tables.Checks.{default_letter}
 
 -- the first letters of the default table
 abbrev pub defaults : ℕ → List (ℕ × List ℕ)

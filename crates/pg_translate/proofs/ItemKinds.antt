@@ -3,10 +3,10 @@ use Rattle.std.proofs.Common.{◌≡◌, ℕ, ◌+◌, ◌-◌, ◌==◌, nat_lt
 use Rattle.std.proofs.Common.{◌++◌, length, drop, fold, slice_index, find, Option, Some, None, option_map, refl, ap, suc, zero, nat_eq}
 use Rattle.std.specs.Prelude.{take_while, codes}
 use Rattle.std.specs.List.{starts_with, list_all}
-use Rattle.pg_types.specs.Parameters.{with_digit}
+use Rattle.pg_types.specs.Numbers.{with_digit}
 use Rattle.pg_translate.specs.declared.weights.TheConstants.{WEIGHT_DIGITS_MAX}
 use Rattle.std.proofs.lemmas.Bool.{and_from}
-use Rattle.pg_translate.specs.Cuts.{Cut, cut_from, with_item, tokens_of}
+use Rattle.pg_translate.specs.Inside.items.Cuts.{Cut, cut_from, with_item, tokens_of}
 use Rattle.std.specs.Option.{option_or, option_map_or}
 use Rattle.pg_types.specs.declared.marks.Mark.{Mark}
 use Rattle.pg_types.specs.declared.marks.Mark.TheVariants.{Error, Missed, Found, DontCare}
@@ -14,7 +14,8 @@ use Rattle.pg_translate.specs.declared.items.Place.TheVariants.{Dictionary, Patt
 use Rattle.pg_translate.specs.Alphabets.{Alphabet}
 use Rattle.pg_translate.specs.Inside.items.Answers.{HasItem}
 use Rattle.std.specs.Char.{is_ascii_digit}
-use Rattle.pg_translate.specs.Tokens.{Token, Letter, Digit, Weight, Marked, Edge, item_at, letter_at, digit_at, weight_at, mark_at, edge_at}
+use Rattle.pg_translate.specs.Tokens.{Token, Letter, Digit, Weight, Marked, Edge}
+use Rattle.pg_translate.specs.Inside.items.Kinds.{item_by_kind, letter_at, digit_at, weight_at, mark_at, edge_at}
 
 -- an item of a pattern line is a letter, a digit or the edge
 abbrev of_patterns : Option (Token × ℕ) → Bool
@@ -34,7 +35,7 @@ digit_of_patterns [] = refl
 digit_of_patterns (b ∷ bs) = elim (is_ascii_digit b) as (λ s. of_patterns (option_or (if s then Some (Digit (b - 48), 1) else None) (edge_at (b ∷ bs)))
     ≡ true) [ true ↦ refl | false ↦ edge_of_patterns (b ∷ bs) ]
 
-item_of_patterns : (t : Alphabet) (text : List ℕ) → of_patterns (item_at t Patterns text) ≡ true
+item_of_patterns : (t : Alphabet) (text : List ℕ) → of_patterns (item_by_kind t Patterns text) ≡ true
 item_of_patterns t text =
     elim (find (λ spelling. starts_with nat_eq text spelling.1) t.spellings) as
     (λ o. of_patterns (option_or (option_map (λ spelling. (Letter spelling.0, length spelling.1)) o) (option_or (digit_at text) (edge_at text))) ≡ true) [
@@ -62,7 +63,7 @@ cut_plain column text (Some item) is behind later = and_from _ _ (item_plain ite
 -- a line of patterns has no weight
 pub no_weight : (t : Alphabet) (most column : ℕ) (text : List ℕ) → list_all is_plain (tokens_of (cut_from t Patterns most column text)) ≡ true
 no_weight t zero column text = refl
-no_weight t (suc more) column text = cut_plain column text (item_at t Patterns text) (item_of_patterns t text) (λ item. cut_from t Patterns more (column + item.1) (drop item.1 text))
+no_weight t (suc more) column text = cut_plain column text (item_by_kind t Patterns text) (item_of_patterns t text) (λ item. cut_from t Patterns more (column + item.1) (drop item.1 text))
     (λ item. no_weight t more (column + item.1) (drop item.1 text))
 
 pub no_mark : (t : Alphabet) (rest after : List ℕ) (mark : Mark) → HasItem t Patterns rest (Marked mark) after → ⊥
@@ -107,7 +108,7 @@ mark_of_dictionary marks (b ∷ bs) = by_tests (b == slice_index marks 0) (b == 
     by_tests false false false true = refl
     by_tests false false false false = refl
 
-item_of_dictionary : (t : Alphabet) (text : List ℕ) → of_dictionary (item_at t Dictionary text) ≡ true
+item_of_dictionary : (t : Alphabet) (text : List ℕ) → of_dictionary (item_by_kind t Dictionary text) ≡ true
 item_of_dictionary t text =
     either_of_dictionary _ _ (letter_of_dictionary t text) (either_of_dictionary _ _ (digit_of_dictionary text)
     (either_of_dictionary _ _ (weight_of_dictionary text) (mark_of_dictionary t.marks text)))

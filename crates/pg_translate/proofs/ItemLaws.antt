@@ -12,13 +12,13 @@ use Rattle.pg_translate.specs.declared.items.Place.{Place}
 use Rattle.pg_translate.specs.declared.items.Place.TheVariants.{Dictionary, Patterns}
 use Rattle.pg_translate.specs.Alphabets.{Alphabet}
 use Rattle.pg_translate.specs.Spellings.{is_space}
-use Rattle.pg_translate.specs.Inside.spellings.Beginnings.{may_begin}
-use Rattle.pg_translate.specs.Inside.spellings.Beginnings.{begins_well}
+use Rattle.pg_translate.specs.Inside.spellings.Beginnings.{may_begin, begins_well}
 use Rattle.pg_translate.specs.Inside.spellings.Members.{IsAmong}
 use Rattle.std.specs.Char.{is_ascii_digit}
 use Rattle.pg_translate.specs.Tables.{check}
 use Rattle.pg_translate.specs.Inside.tables.Checks.{mark_checks_from, mark_checks, mark_fails}
-use Rattle.pg_translate.specs.Tokens.{Token, Letter, Digit, Weight, Marked, Edge, letter_at, weight_at, mark_at, item_at}
+use Rattle.pg_translate.specs.Tokens.{Token, Letter, Digit, Weight, Marked, Edge}
+use Rattle.pg_translate.specs.Inside.items.Kinds.{letter_at, weight_at, mark_at, item_by_kind}
 use Rattle.pg_translate.specs.Inside.items.Items.{IsItem, IsWeight, IsMark, decimal_value}
 use Rattle.pg_translate.specs.Inside.tables.Rules.{KeepsRules}
 use Rattle.pg_translate.proofs.Beginnings.{begins_as}
@@ -139,13 +139,13 @@ four_marks t rules = by_list t.marks rules.four rules.marks_pass
     by_list (a ∷ b ∷ c ∷ d ∷ e ∷ more) four good = absurd (omega arith)
 
 -- a mark is read where no spelling, digit or weight stands
-found_byte : (t : Alphabet) → KeepsRules t → (mark : Mark) (byte : ℕ) (more : List ℕ) → ReadsMark t.marks mark byte → item_at t Dictionary (byte ∷ more) ≡ Some (Marked mark, 1)
+found_byte : (t : Alphabet) → KeepsRules t → (mark : Mark) (byte : ℕ) (more : List ℕ) → ReadsMark t.marks mark byte → item_by_kind t Dictionary (byte ∷ more) ≡ Some (Marked mark, 1)
 found_byte t rules mark byte more reads =
     let none : letter_at t.spellings (byte ∷ more) ≡ None = no_letter t rules byte more (not_from_true _ (or_right ((is_ascii_digit byte || byte == 46) || byte == 123) _ reads.there)) in
     rw (none, reads.digit, no_weight_at byte more reads.brace) (reads.found more)
 
 -- a weight in braces, where no spelling stands
-found_weight : (t : Alphabet) → KeepsRules t → (weight : ℕ) (text more : List ℕ) → IsWeight weight text → item_at t Dictionary (text ++ more) ≡ Some (Weight weight, length text)
+found_weight : (t : Alphabet) → KeepsRules t → (weight : ℕ) (text more : List ℕ) → IsWeight weight text → item_by_kind t Dictionary (text ++ more) ≡ Some (Weight weight, length text)
 found_weight t rules weight text more is =
     let whole : text ++ more ≡ 123 ∷ (is.digits ++ 125 ∷ more) = ap (λ (s : List ℕ). s ++ more) is.text_is ∙ ap (λ (s : List ℕ). 123 ∷ s) (append_assoc is.digits (125 ∷ []) more) in
     let size : length text ≡ length is.digits + 2 = ap length is.text_is ∙ ap suc (length-append is.digits (125 ∷ []))
@@ -161,7 +161,7 @@ digit_test : (digit : ℕ) → digit ≤ 9 → is_ascii_digit (48 + digit) ≡ t
 digit_test digit few = rw (le-leb 48 (48 + digit) (let low : 48 ≤ 48 + digit = omega arith in low), le-leb (48 + digit) 57 (let high : 48 + digit ≤ 57 = omega arith in high)) refl
 
 -- the byte of a mark is read, whatever follows it
-mark_reads : (t : Alphabet) → KeepsRules t → (mark : Mark) (text more : List ℕ) → IsMark t mark text → item_at t Dictionary (text ++ more) ≡ Some (Marked mark, length text)
+mark_reads : (t : Alphabet) → KeepsRules t → (mark : Mark) (text more : List ℕ) → IsMark t mark text → item_by_kind t Dictionary (text ++ more) ≡ Some (Marked mark, length text)
 mark_reads t rules Nothing text more is = absurd is
 mark_reads t rules Error text more is = rw is (found_byte t rules Error _ more (four_marks t rules).0)
 mark_reads t rules Missed text more is = rw is (found_byte t rules Missed _ more (four_marks t rules).1)
@@ -169,7 +169,7 @@ mark_reads t rules Found text more is = rw is (found_byte t rules Found _ more (
 mark_reads t rules DontCare text more is = rw is (found_byte t rules DontCare _ more (four_marks t rules).3)
 
 -- an item is read, whatever follows it
-pub item_reads : (t : Alphabet) → KeepsRules t → (place : Place) (token : Token) (text more : List ℕ) → IsItem t place token text → item_at t place (text ++ more) ≡ Some (token, length text)
+pub item_reads : (t : Alphabet) → KeepsRules t → (place : Place) (token : Token) (text more : List ℕ) → IsItem t place token text → item_by_kind t place (text ++ more) ≡ Some (token, length text)
 item_reads t rules Dictionary (Letter sign) text more is =
     let hit : find (λ spelling. starts_with nat_eq (text ++ more) spelling.1) t.spellings ≡ Some (sign, text) =
     find_begins (text ++ more) t.spellings (sign, text) rules.apart is (begins-append text more) in rw hit refl

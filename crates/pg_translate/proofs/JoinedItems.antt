@@ -12,14 +12,12 @@ use Rattle.pg_translate.specs.declared.items.Place.{Place}
 use Rattle.pg_translate.specs.declared.items.Place.TheVariants.{Dictionary, Patterns}
 use Rattle.pg_translate.specs.Alphabets.{Alphabet}
 use Rattle.pg_translate.specs.Inside.spellings.Beginnings.{begins_well}
-use Rattle.pg_translate.specs.Tokens.{Token, Letter, Digit, Weight, Marked, Edge, item_at}
-use Rattle.pg_translate.specs.Cuts.{PlacedItem, Cut, cut, cut_from, with_item, tokens_of}
+use Rattle.pg_translate.specs.Tokens.{Token, Letter, Digit, Weight, Marked, Edge}
+use Rattle.pg_translate.specs.Inside.items.Kinds.{item_by_kind}
+use Rattle.pg_translate.specs.Inside.items.Cuts.{PlacedItem, Cut, cut, cut_from, with_item, tokens_of}
 use Rattle.pg_translate.specs.Gaps.{sign_of, signs_of}
 use Rattle.pg_translate.specs.Inside.items.Items.{IsItem, text_of_items, tokens_in}
-use Rattle.pg_translate.specs.LineRefusals.{line_refusal}
-use Rattle.pg_translate.specs.Inside.items.Refusing.{sign_columns}
-use Rattle.pg_translate.specs.Inside.items.Refusing.{signs_max, long_kind}
-use Rattle.pg_translate.specs.Inside.items.Refusing.{of_line, sign_column, stop_refusal}
+use Rattle.pg_translate.specs.Inside.items.Refusing.{cut_refusal, sign_columns, signs_max, long_kind, of_line, sign_column, stop_refusal}
 use Rattle.pg_translate.specs.Inside.tables.Rules.{KeepsRules}
 use Rattle.pg_translate.proofs.Cuts.{cut_item, cut_none}
 use Rattle.pg_translate.proofs.CutLaws.{no_item}
@@ -54,7 +52,7 @@ cut_joined t rules place most column [] each few =
 cut_joined t rules place zero column (item ∷ items) each few = absurd (omega (arith, item_some t rules place item.0 item.1 each.0, length-append item.1 (text_of_items items)))
 cut_joined t rules place (suc more) column (item ∷ items) each few =
     let size : ℕ = length item.1 in
-    let found : item_at t place (item.1 ++ text_of_items items) ≡ Some (item.0, size) = item_reads t rules place item.0 item.1 (text_of_items items) each.0 in
+    let found : item_by_kind t place (item.1 ++ text_of_items items) ≡ Some (item.0, size) = item_reads t rules place item.0 item.1 (text_of_items items) each.0 in
     let behind : drop size (item.1 ++ text_of_items items) ≡ text_of_items items = drop_at item.1 (text_of_items items) size refl in
     let whole : cut_from t place (suc more) column (text_of_items (item ∷ items)) ≡ with_item column item.0 (cut_from t place more (column + size) (text_of_items items)) =
     cut_item t place more column (item.1 ++ text_of_items items) item.0 size found ∙ ap (λ (rest : List ℕ). with_item column item.0 (cut_from t place more (column + size) rest)) behind in
@@ -73,7 +71,7 @@ length-sign_columns (item ∷ items) =
     ]
 
 -- a line of items with few signs is not refused
-pub not_refused : (place : Place) (line : ℕ) (c : Cut) → length (signs_of (tokens_of c)) ≤ signs_max place → c.rest ≡ [] → line_refusal place line c ≡ None
+pub not_refused : (place : Place) (line : ℕ) (c : Cut) → length (signs_of (tokens_of c)) ≤ signs_max place → c.rest ≡ [] → cut_refusal place line c ≡ None
 not_refused place line c few ended =
     let short : length (sign_columns c) ≤ signs_max place = omega (arith, length-sign_columns c.items) in
     ap (λ (column : Option ℕ). option_or (option_map (refusal_at line (long_kind place)) column) (stop_refusal place line c)) (slice_get_past (sign_columns c) (signs_max place) short)

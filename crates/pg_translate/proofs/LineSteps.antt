@@ -6,14 +6,12 @@ use Rattle.std.proofs.lemmas.List.{length-drop}
 use Rattle.pg_translate.specs.declared.items.Place.{Place}
 use Rattle.pg_translate.specs.Alphabets.{Alphabet}
 use Rattle.pg_translate.specs.Tokens.{Token}
-use Rattle.pg_translate.specs.Cuts.{Cut, cut_from, with_item}
+use Rattle.pg_translate.specs.Inside.items.Cuts.{Cut, cut_from, with_item}
 use Rattle.pg_translate.specs.Inside.items.Rests.{cut_rest}
 use Rattle.pg_translate.specs.Inside.items.Answers.{HasItem}
 use Rattle.pg_translate.specs.Gaps.{sign_of}
-use Rattle.pg_translate.specs.Inside.items.Refusing.{sign_columns}
-use Rattle.pg_translate.specs.Inside.items.Refusing.{long_kind}
+use Rattle.pg_translate.specs.Inside.items.Refusing.{sign_columns, long_kind, stop_refusal, refusal_with_room}
 use Rattle.pg_types.specs.ValuesOrRefusals.{refusal_at}
-use Rattle.pg_translate.specs.Inside.items.Refusing.{stop_refusal, refusal_with_room}
 use Rattle.pg_translate.proofs.Cuts.{cut_item}
 use Rattle.pg_translate.proofs.CutLaws.{cut_enough}
 

@@ -11,8 +11,8 @@ use Rattle.pg_types.specs.Inside.reading.Parts.{first_refusal}
 use Rattle.pg_types.specs.Inside.reading.Answers.{Fails}
 use Rattle.pg_translate.specs.declared.index.Index.{Index}
 use Rattle.pg_translate.specs.Inside.spellings.FirstSpellings.{letters_in}
-use Rattle.pg_translate.specs.Tables.{ListedSpelling, spelling_with_sign, spelling_check, spellings_at}
-use Rattle.pg_translate.specs.Inside.tables.Checks.{first_failure, spelling_checks_from, spellings_from, with_line_spellings, trimmed_pieces, pieces_of}
+use Rattle.pg_translate.specs.Tables.{ListedSpelling, spelling_check}
+use Rattle.pg_translate.specs.Inside.tables.Checks.{spelling_with_sign, spellings_at, first_failure, spelling_checks_from, spellings_from, with_line_spellings, trimmed_pieces, pieces_of}
 use Rattle.pg_translate.specs.Inside.spellings.Fronts.{IsIndex, pairs}
 
 -- checks that pass leave those behind them
@@ -54,7 +54,7 @@ pub record HasPieces (old new : Index) (marks : List ℕ) (line letter column de
 -- one piece more
 pub pieces_more : (old mid new : Index) (marks : List ℕ) (line letter column delimiter : ℕ) (text rest piece after : List ℕ)
     → HasPieces old mid marks line letter column delimiter text rest → pieces_of delimiter rest ≡ piece ∷ pieces_of delimiter after → 0 < length piece
-    → length piece + length after ≤ length rest → first_failure (spelling_check marks (pairs mid) (record { line = line; column = column; letter = letter; text = piece }))
+    → length piece + length after ≤ length rest → first_failure (spelling_check marks (pairs mid) (record { line = line; column = column; spelling = (letter + 1, piece) }))
     ≡ Ok tt → pairs new ≡ pairs mid ++ (letter + 1, piece) ∷ [] → (letters_in (pairs new) ≡ letter) × (letter ≤ SIGNS_MAX - 1) → IsIndex new
     → HasPieces old new marks line letter (column + (length piece + 1)) delimiter text after
 pieces_more old mid new marks line letter column delimiter text rest piece after before cut some shorter passed added letters sound = record {
@@ -71,7 +71,7 @@ pieces_more old mid new marks line letter column delimiter text rest piece after
 }
   where
     here : ListedSpelling
-    here = record { line = line; column = column; letter = letter; text = piece }
+    here = record { line = line; column = column; spelling = (letter + 1, piece) }
 
     later : List ListedSpelling
     later = spellings_at line (column + (length piece + 1)) letter (pieces_of delimiter after)
@@ -91,10 +91,10 @@ pieces_done old new marks line letter column delimiter text rest all none = (
 -- a piece that fails fails the line
 pub pieces_fail : (old mid : Index) (marks : List ℕ) (line letter column delimiter : ℕ) (text rest piece after : List ℕ) (e : ReadingError)
     → HasPieces old mid marks line letter column delimiter text rest → pieces_of delimiter rest ≡ piece ∷ pieces_of delimiter after
-    → Fails e (first_failure (spelling_check marks (pairs mid) (record { line = line; column = column; letter = letter; text = piece })))
+    → Fails e (first_failure (spelling_check marks (pairs mid) (record { line = line; column = column; spelling = (letter + 1, piece) })))
     → Fails e (first_failure (spelling_checks_from marks (pairs old) (spellings_at line 2 letter (pieces_of delimiter text))))
 pieces_fail old mid marks line letter column delimiter text rest piece after e before cut fails =
-    let here : ListedSpelling = record { line = line; column = column; letter = letter; text = piece } in
+    let here : ListedSpelling = record { line = line; column = column; spelling = (letter + 1, piece) } in
     let whole : Fails e (first_failure (spelling_checks_from marks (pairs mid) (spellings_at line column letter (piece ∷ pieces_of delimiter after)))) =
     fails_first e (spelling_check marks (pairs mid) here) (spelling_checks_from marks (pairs mid ++ spelling_with_sign here ∷ [])
     (spellings_at line (column + (length piece + 1)) letter (pieces_of delimiter after))) fails in

@@ -3,14 +3,16 @@ use Rattle.std.specs.Prelude.{◌≡◌, ℕ, ◌+◌, List, [], ◌∷◌, ◌+
 use Rattle.std.specs.List.{concat, range_with_len}
 use Rattle.pg_types.specs.declared.marks.Mark.TheVariants.{Error, Missed, Found, DontCare}
 use Rattle.pg_types.specs.declared.refusals.Kind.{Kind}
-use Rattle.pg_types.specs.declared.refusals.Kind.TheVariants.{BadMinima, BadMark, BadSpelling, SpellingClash}
+use Rattle.pg_types.specs.declared.refusals.Kind.TheVariants.{BadMinima, BadMark, BadSpelling, SpellingClash, DictionaryCharacter, BadWeight}
 use Rattle.pg_types.specs.declared.refusals.Refusal.{Refusal}
 use Rattle.pg_types.specs.ValuesOrRefusals.{refusal_at}
+use Rattle.pg_translate.specs.declared.items.Place.{Place}
 use Rattle.pg_translate.specs.declared.items.Place.TheVariants.{Dictionary, Patterns}
 use Rattle.pg_translate.specs.Alphabets.{Alphabet, letters_of, spelling_of}
 use Rattle.pg_translate.specs.Tables.{table, default_alphabet}
-use Rattle.pg_translate.specs.Tokens.{Letter, Digit, Weight, Marked, Edge, item_at}
-use Rattle.pg_translate.specs.Cuts.{Cut, cut, tokens_of}
+use Rattle.pg_translate.specs.Tokens.{Token, Letter, Digit, Weight, Marked, Edge, item_at}
+use Rattle.pg_translate.specs.Cuts.{items_of}
+use Rattle.pg_translate.specs.LineRefusals.{line_refusal}
 use Rattle.pg_translate.specs.Reach.{positions}
 
 -- a line with its line feed
@@ -118,40 +120,50 @@ a_question_mark_before_the_fourth = refl
 pub a_brace_is_no_mark : of_lines (codes " 1 1{" ∷ []) ≡ refused BadMark 1 5
 a_brace_is_no_mark = refl
 
-pub marks_and_weights : tokens_of (cut abc Dictionary (codes "{250}a.b-2c*?a{12}9 x")) ≡ Weight 250 ∷ Letter 2 ∷ Marked Error ∷ Letter 3 ∷ Marked Missed
+-- what the items of a line mean
+abbrev meanings : Place → List ℕ → List Token
+meanings place line = map (λ i. i.1.0) (items_of abc place line)
+
+pub marks_and_weights : meanings Dictionary (codes "{250}a.b-2c*?a{12}9 x") ≡ Weight 250 ∷ Letter 2 ∷ Marked Error ∷ Letter 3 ∷ Marked Missed
     ∷ Digit 2 ∷ Letter 4 ∷ Marked Found ∷ Marked DontCare ∷ Letter 2 ∷ Weight 12 ∷ Digit 9 ∷ []
 marks_and_weights = refl
 
-pub refused_letter : cut abc Dictionary (codes "ad") ≡ record { items = record { column = 1; token = Letter 2 } ∷ []; column = 2; rest = codes "d" }
+pub refused_letter : items_of abc Dictionary (codes "ad") ≡ (1, (Letter 2, codes "a")) ∷ []
 refused_letter = refl
 
--- where a dictionary line stops after ab-
-abbrev after_three : List ℕ → Cut
-after_three rest = record { items = record { column = 1; token = Letter 2 } ∷ record { column = 2; token = Letter 3 } ∷ record { column = 3; token = Marked Missed } ∷ []; column = 4; rest = rest }
+pub refused_there : line_refusal Dictionary 7 (codes "ad") (items_of abc Dictionary (codes "ad")) ≡ Some (refusal_at 7 DictionaryCharacter 2)
+refused_there = refl
 
-pub weight_zero : cut abc Dictionary (codes "ab-{0}c") ≡ after_three (codes "{0}c")
+-- the items of a dictionary line that stops after ab-
+abbrev three_items : List (ℕ × (Token × List ℕ))
+three_items = (1, (Letter 2, codes "a")) ∷ (2, (Letter 3, codes "b")) ∷ (3, (Marked Missed, codes "-")) ∷ []
+
+pub weight_zero : items_of abc Dictionary (codes "ab-{0}c") ≡ three_items
 weight_zero = refl
 
-pub open_weight : cut abc Dictionary (codes "ab-{12c") ≡ after_three (codes "{12c")
+pub open_weight : items_of abc Dictionary (codes "ab-{12c") ≡ three_items
 open_weight = refl
 
-pub long_weight : cut abc Dictionary (codes "ab-{12345}c") ≡ after_three (codes "{12345}c")
+pub long_weight : items_of abc Dictionary (codes "ab-{12345}c") ≡ three_items
 long_weight = refl
 
-pub zeros_before_a_weight : item_at abc Dictionary (codes "{0012}c") ≡ Some (Weight 12, 6)
+pub long_weight_refused : line_refusal Dictionary 1 (codes "ab-{12345}c") three_items ≡ Some (refusal_at 1 BadWeight 4)
+long_weight_refused = refl
+
+pub zeros_before_a_weight : item_at abc Dictionary (codes "{0012}c") ≡ Some (Weight 12, codes "{0012}")
 zeros_before_a_weight = refl
 
-pub edges_in_a_pattern : tokens_of (cut abc Patterns (codes ".a10b.")) ≡ Edge ∷ Letter 2 ∷ Digit 1 ∷ Digit 0 ∷ Letter 3 ∷ Edge ∷ []
+pub edges_in_a_pattern : meanings Patterns (codes ".a10b.") ≡ Edge ∷ Letter 2 ∷ Digit 1 ∷ Digit 0 ∷ Letter 3 ∷ Edge ∷ []
 edges_in_a_pattern = refl
 
-pub no_mark_in_a_pattern : cut abc Patterns (codes "a-b") ≡ record { items = record { column = 1; token = Letter 2 } ∷ []; column = 2; rest = codes "-b" }
+pub no_mark_in_a_pattern : items_of abc Patterns (codes "a-b") ≡ (1, (Letter 2, codes "a")) ∷ []
 no_mark_in_a_pattern = refl
 
 pub no_weight_in_a_pattern : item_at abc Patterns (codes "{1}") ≡ None
 no_weight_in_a_pattern = refl
 
-pub columns_count_bytes : cut (record { left = 1; right = 1; marks = codes ".-*?"; spellings = (2, 195 ∷ 164 ∷ []) ∷ [] }) Patterns (195 ∷ 164 ∷ 195 ∷ [])
-    ≡ record { items = record { column = 1; token = Letter 2 } ∷ []; column = 3; rest = 195 ∷ [] }
+pub columns_count_bytes : items_of (record { left = 1; right = 1; marks = codes ".-*?"; spellings = (2, 195 ∷ 164 ∷ []) ∷ (3, codes "b") ∷ [] }) Patterns (195 ∷ 164 ∷ 98 ∷ 195 ∷ [])
+    ≡ (1, (Letter 2, 195 ∷ 164 ∷ [])) ∷ (3, (Letter 3, codes "b")) ∷ []
 columns_count_bytes = refl
 
 pub minima_of_the_default_table : map (positions 2 3) (6 ∷ 7 ∷ 8 ∷ []) ≡ [] ∷ (3 ∷ []) ∷ (3 ∷ 4 ∷ []) ∷ []

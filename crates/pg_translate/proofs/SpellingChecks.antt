@@ -1,5 +1,5 @@
 -- The checks of one spelling: which one fails, or that all pass.
-use Rattle.std.proofs.Common.{◌≡◌, ℕ, ◌-◌, ◌<◌, ◌≤◌, nat_lt, true, false, List, [], ◌∷◌, length, Ok, Err, refl, arith}
+use Rattle.std.proofs.Common.{◌≡◌, ℕ, ◌<◌, ◌≤◌, nat_lt, true, false, List, [], ◌∷◌, length, Ok, Err, refl, arith}
 use Rattle.std.proofs.lemmas.Bool.{and_parts, leb-true}
 use Rattle.std.specs.List.{list_any}
 use Rattle.pg_types.specs.declared.limits.TheConstants.{SIGNS_MAX}
@@ -7,25 +7,25 @@ use Rattle.pg_types.specs.declared.refusals.Kind.TheVariants.{TooManyLetters, Ba
 use Rattle.pg_types.specs.ValuesOrRefusals.{refusal_at}
 use Rattle.pg_translate.specs.declared.spellings.TheConstants.{SPELLING_MAX}
 use Rattle.pg_translate.specs.Spellings.{is_spelling, clash}
-use Rattle.pg_translate.specs.Tables.{ListedSpelling, spelling_check, spelling_with_sign}
+use Rattle.pg_translate.specs.Tables.{ListedSpelling, spelling_check}
 use Rattle.pg_translate.specs.Inside.tables.Checks.{first_failure}
 
 module _ (marks : List ℕ) (earlier : List (ℕ × List ℕ)) (s : ListedSpelling) where
   -- there are too many letters
-  pub many_letters : nat_lt (SIGNS_MAX - 1) s.letter ≡ true → first_failure (spelling_check marks earlier s) ≡ Err (refusal_at s.line TooManyLetters 1)
+  pub many_letters : nat_lt SIGNS_MAX s.spelling.0 ≡ true → first_failure (spelling_check marks earlier s) ≡ Err (refusal_at s.line TooManyLetters 1)
   many_letters many = rw many refl
 
   -- the text may be no spelling
-  pub bad_spelling : nat_lt (SIGNS_MAX - 1) s.letter ≡ false → is_spelling marks s.text ≡ false → first_failure (spelling_check marks earlier s) ≡ Err (refusal_at s.line BadSpelling s.column)
+  pub bad_spelling : nat_lt SIGNS_MAX s.spelling.0 ≡ false → is_spelling marks s.spelling.1 ≡ false → first_failure (spelling_check marks earlier s) ≡ Err (refusal_at s.line BadSpelling s.column)
   bad_spelling few bad = rw (few, bad) refl
 
   -- the spelling clashes with an earlier one
-  pub clashing : nat_lt (SIGNS_MAX - 1) s.letter ≡ false → is_spelling marks s.text ≡ true → list_any (clash (spelling_with_sign s)) earlier ≡ true
+  pub clashing : nat_lt SIGNS_MAX s.spelling.0 ≡ false → is_spelling marks s.spelling.1 ≡ true → list_any (clash (s.spelling)) earlier ≡ true
       → first_failure (spelling_check marks earlier s) ≡ Err (refusal_at s.line SpellingClash s.column)
   clashing few good clashes = rw (few, good, clashes) refl
 
   -- all checks pass
-  pub passing : nat_lt (SIGNS_MAX - 1) s.letter ≡ false → is_spelling marks s.text ≡ true → list_any (clash (spelling_with_sign s)) earlier ≡ false
+  pub passing : nat_lt SIGNS_MAX s.spelling.0 ≡ false → is_spelling marks s.spelling.1 ≡ true → list_any (clash (s.spelling)) earlier ≡ false
       → first_failure (spelling_check marks earlier s) ≡ Ok tt
   passing few good apart = rw (few, good, apart) refl
 

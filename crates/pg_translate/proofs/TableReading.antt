@@ -1,5 +1,5 @@
 -- A whole translate file, from its head and its letter lines.
-use Rattle.std.proofs.Common.{◌≡◌, ℕ, ◌+◌, ◌-◌, ◌≤◌, max, fold, nat_lt, Bool, true, false, not, List, [], ◌∷◌, ◌++◌, map, length, Ok, Err, refl, sym, ap, ap₂, ◌∙◌, subst, arith}
+use Rattle.std.proofs.Common.{◌≡◌, ℕ, ◌-◌, ◌≤◌, max, fold, nat_lt, Bool, true, false, not, List, [], ◌∷◌, ◌++◌, map, length, Ok, Err, refl, sym, ap, ap₂, ◌∙◌, subst, arith}
 use Rattle.std.specs.List.{list_all, list_any}
 use Rattle.std.proofs.lemmas.Bool.{and_from, le-ltb, ltb-false, not-false}
 use Rattle.pg_types.specs.declared.limits.TheConstants.{FILE_MAX, SIGNS_MAX}
@@ -16,9 +16,9 @@ use Rattle.pg_types.specs.Inside.reading.Answers.{Fails}
 use Rattle.pg_translate.specs.declared.head.Head.{Head}
 use Rattle.pg_translate.specs.declared.index.Index.{Index}
 use Rattle.pg_translate.specs.Spellings.{is_spelling, clash}
-use Rattle.pg_translate.specs.Tables.{ListedSpelling, check, spelling_with_sign, spelling_check, spellings_of, head_checks, alphabet_of, marks_of, table, table_of}
-use Rattle.pg_translate.specs.Inside.tables.Checks.{first_failure, spelling_checks_from, spellings_from, head_checks_by_pairs, alphabet_by_lines}
-use Rattle.pg_translate.proofs.TableForms.{read_as, spelling_checks}
+use Rattle.pg_translate.specs.Tables.{ListedSpelling, check, spelling_check, spellings_of, head_checks, table, table_of}
+use Rattle.pg_translate.specs.Inside.tables.Checks.{marks_of, spelling_with_sign, first_failure, spelling_checks_from, spellings_from, head_checks_by_pairs, alphabet_by_lines}
+use Rattle.pg_translate.proofs.TableForms.{read_as, spelling_checks, table_by}
 use Rattle.pg_translate.specs.Inside.tables.Heads.{IsHead, IsSoundHead, head_marks}
 use Rattle.pg_translate.specs.Inside.tables.SoundTables.{IsTable}
 use Rattle.pg_translate.specs.Inside.spellings.Fronts.{IsIndex, pairs}
@@ -45,13 +45,13 @@ spelled_all marks earlier [] none = refl
 spelled_all marks earlier (s ∷ later) none =
     let parts : (spelling_check marks earlier s ≡ []) × (spelling_checks_from marks (earlier ++ spelling_with_sign s ∷ []) later ≡ []) =
     none_parts (spelling_check marks earlier s) (spelling_checks_from marks (earlier ++ spelling_with_sign s ∷ []) later) none in
-    let own : (check (nat_lt (SIGNS_MAX - 1) s.letter) TooManyLetters s.line 1 ≡ [])
-    × (check (not (is_spelling marks s.text)) BadSpelling s.line s.column ++ check (list_any (clash (spelling_with_sign s)) earlier) SpellingClash s.line s.column ≡ []) =
-    none_parts (check (nat_lt (SIGNS_MAX - 1) s.letter) TooManyLetters s.line 1) (check (not (is_spelling marks s.text)) BadSpelling s.line s.column
-    ++ check (list_any (clash (spelling_with_sign s)) earlier) SpellingClash s.line s.column) parts.0 in
-    let form : (check (not (is_spelling marks s.text)) BadSpelling s.line s.column ≡ []) × (check (list_any (clash (spelling_with_sign s)) earlier) SpellingClash s.line s.column ≡ []) =
-    none_parts (check (not (is_spelling marks s.text)) BadSpelling s.line s.column) (check (list_any (clash (spelling_with_sign s)) earlier) SpellingClash s.line s.column) own.1 in
-    and_from _ _ (not-false _ (check_none (not (is_spelling marks s.text)) BadSpelling s.line s.column form.0)) (spelled_all marks (earlier ++ spelling_with_sign s ∷ []) later parts.1)
+    let own : (check (nat_lt SIGNS_MAX s.spelling.0) TooManyLetters s.line 1 ≡ [])
+    × (check (not (is_spelling marks s.spelling.1)) BadSpelling s.line s.column ++ check (list_any (clash s.spelling) earlier) SpellingClash s.line s.column ≡ []) =
+    none_parts (check (nat_lt SIGNS_MAX s.spelling.0) TooManyLetters s.line 1) (check (not (is_spelling marks s.spelling.1)) BadSpelling s.line s.column
+    ++ check (list_any (clash s.spelling) earlier) SpellingClash s.line s.column) parts.0 in
+    let form : (check (not (is_spelling marks s.spelling.1)) BadSpelling s.line s.column ≡ []) × (check (list_any (clash s.spelling) earlier) SpellingClash s.line s.column ≡ []) =
+    none_parts (check (not (is_spelling marks s.spelling.1)) BadSpelling s.line s.column) (check (list_any (clash s.spelling) earlier) SpellingClash s.line s.column) own.1 in
+    and_from _ _ (not-false _ (check_none (not (is_spelling marks s.spelling.1)) BadSpelling s.line s.column form.0)) (spelled_all marks (earlier ++ spelling_with_sign s ∷ []) later parts.1)
 
 -- spellings whose checks pass have few letters
 few_letters : (n : ℕ) (marks : List ℕ) (earlier : List (ℕ × List ℕ)) (spellings : List ListedSpelling) → n ≤ SIGNS_MAX - 1 → spelling_checks_from marks earlier spellings
@@ -60,12 +60,12 @@ few_letters n marks earlier [] few none = few
 few_letters n marks earlier (s ∷ later) few none =
     let parts : (spelling_check marks earlier s ≡ []) × (spelling_checks_from marks (earlier ++ spelling_with_sign s ∷ []) later ≡ []) =
     none_parts (spelling_check marks earlier s) (spelling_checks_from marks (earlier ++ spelling_with_sign s ∷ []) later) none in
-    let own : (check (nat_lt (SIGNS_MAX - 1) s.letter) TooManyLetters s.line 1 ≡ [])
-    × (check (not (is_spelling marks s.text)) BadSpelling s.line s.column ++ check (list_any (clash (spelling_with_sign s)) earlier) SpellingClash s.line s.column ≡ []) =
-    none_parts (check (nat_lt (SIGNS_MAX - 1) s.letter) TooManyLetters s.line 1) (check (not (is_spelling marks s.text)) BadSpelling s.line s.column
-    ++ check (list_any (clash (spelling_with_sign s)) earlier) SpellingClash s.line s.column) parts.0 in
-    let low : s.letter ≤ SIGNS_MAX - 1 = ltb-false (SIGNS_MAX - 1) s.letter (check_none (nat_lt (SIGNS_MAX - 1) s.letter) TooManyLetters s.line 1 own.0) in
-    few_letters (max n (s.letter + 1 - 1)) marks (earlier ++ spelling_with_sign s ∷ []) later (omega arith) parts.1
+    let own : (check (nat_lt SIGNS_MAX s.spelling.0) TooManyLetters s.line 1 ≡ [])
+    × (check (not (is_spelling marks s.spelling.1)) BadSpelling s.line s.column ++ check (list_any (clash s.spelling) earlier) SpellingClash s.line s.column ≡ []) =
+    none_parts (check (nat_lt SIGNS_MAX s.spelling.0) TooManyLetters s.line 1) (check (not (is_spelling marks s.spelling.1)) BadSpelling s.line s.column
+    ++ check (list_any (clash s.spelling) earlier) SpellingClash s.line s.column) parts.0 in
+    let low : s.spelling.0 ≤ SIGNS_MAX = ltb-false SIGNS_MAX s.spelling.0 (check_none (nat_lt SIGNS_MAX s.spelling.0) TooManyLetters s.line 1 own.0) in
+    few_letters (max n (s.spelling.0 - 1)) marks (earlier ++ spelling_with_sign s ∷ []) later (omega arith) parts.1
 
 -- the first of the refusals, in two forms
 first_of : {Y : Type 0} (refusals : List Refusal) (y : Y) → unless (slice_get refusals 0) y ≡ first_refusal refusals y
@@ -77,7 +77,7 @@ not_long : (bytes first : List ℕ) (later : List (List ℕ)) → lines bytes �
     ≡ first_refusal (head_checks_by_pairs first ++ spelling_checks_from (marks_of first) [] (spellings_from 2 1 later)) (alphabet_by_lines first later)
 not_long bytes first later cut few =
     let whole : table bytes ≡ table_of (length bytes) (first ∷ later) = ap (table_of (length bytes)) cut in
-    whole ∙ rw (le-ltb FILE_MAX (length bytes) few) (first_of (head_checks first ++ spelling_checks (marks_of first) (spellings_of later)) (alphabet_of first later) ∙ sym (read_as first later))
+    whole ∙ rw (le-ltb FILE_MAX (length bytes) few) (first_of (head_checks (table_by first later) ++ spelling_checks (marks_of first) (spellings_of later)) (table_by first later) ∙ sym (read_as first later))
 
 -- the first checks decide where one fails
 first_fails : {Y : Type 0} (before after : List Refusal) (r : Refusal) (y : Y) → first_failure before ≡ Err r → first_refusal (before ++ after) y ≡ Err r

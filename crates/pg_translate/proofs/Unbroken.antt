@@ -12,7 +12,8 @@ use Rattle.pg_translate.specs.declared.items.Place.TheVariants.{Dictionary, Patt
 use Rattle.pg_translate.specs.Alphabets.{Alphabet}
 use Rattle.pg_translate.specs.Spellings.{is_space}
 use Rattle.std.specs.Char.{is_ascii_digit}
-use Rattle.pg_translate.specs.Tokens.{Token, Letter, Digit, Weight, Marked, Edge, letter_at, digit_at, weight_at, mark_at, item_at, is_ended}
+use Rattle.pg_translate.specs.Tokens.{Token, Letter, Digit, Weight, Marked, Edge, is_ended}
+use Rattle.pg_translate.specs.Inside.items.Kinds.{letter_at, digit_at, weight_at, mark_at, item_by_kind}
 use Rattle.pg_translate.specs.Inside.items.Items.{IsItem, IsWeight, IsMark, text_of_items}
 use Rattle.pg_translate.specs.Inside.tables.Rules.{KeepsRules}
 use Rattle.pg_translate.proofs.ItemLaws.{four_marks}
@@ -60,10 +61,10 @@ ended_space : (b : ℕ) → (b == 32 || b == 9) ≡ true → is_space b ≡ true
 ended_space b ended = rw ended refl
 
 -- where a line ends no item stands
-pub ended_none : (t : Alphabet) → KeepsRules t → (place : Place) (text : List ℕ) → is_ended text ≡ true → item_at t place text ≡ None
-ended_none t rules place text ended = by_item text ended (item_at t place text) refl
+pub ended_none : (t : Alphabet) → KeepsRules t → (place : Place) (text : List ℕ) → is_ended text ≡ true → item_by_kind t place text ≡ None
+ended_none t rules place text ended = by_item text ended (item_by_kind t place text) refl
   where
-    by_item : (text : List ℕ) → is_ended text ≡ true → (found : Option (Token × ℕ)) → found ≡ item_at t place text → item_at t place text ≡ None
+    by_item : (text : List ℕ) → is_ended text ≡ true → (found : Option (Token × ℕ)) → found ≡ item_by_kind t place text → item_by_kind t place text ≡ None
     by_item text ended None is = sym is
     by_item [] ended (Some x) is =
         let reads : Reads t place [] x.0 x.1 = item_found t rules place [] x.0 x.1 (sym is) in
@@ -93,7 +94,7 @@ letter_begun t rules text x found = false_from_ne_true _ (λ ended. apart (none_
 pub mark_begun : (t : Alphabet) → KeepsRules t → (text : List ℕ) (x : Token × ℕ) → mark_at t.marks text ≡ Some x → is_ended text ≡ false
 mark_begun t rules text x found = false_from_ne_true _ (λ ended. apart (ended_none t rules Dictionary text ended))
   where
-    apart : item_at t Dictionary text ≡ None → ⊥
+    apart : item_by_kind t Dictionary text ≡ None → ⊥
     apart none =
         let behind_letter = none_parts (letter_at t.spellings text) (option_or (digit_at text) (option_or (weight_at text) (mark_at t.marks text))) none in
         let behind_digit = none_parts (digit_at text) (option_or (weight_at text) (mark_at t.marks text)) behind_letter.1 in

@@ -8,7 +8,8 @@ use Rattle.pg_translate.specs.declared.index.Front.TheVariants.{Inside, Whole}
 use Rattle.pg_translate.specs.Inside.spellings.FirstSpellings.{letters_in}
 use Rattle.pg_translate.specs.Spellings.{clash}
 use Rattle.pg_translate.specs.Inside.spellings.Members.{IsAmong}
-use Rattle.pg_translate.specs.Tokens.{Letter, letter_at}
+use Rattle.pg_translate.specs.Tokens.{Letter}
+use Rattle.pg_translate.specs.Inside.items.Kinds.{letter_at}
 use Rattle.pg_translate.specs.declared.index.Index.{Index}
 use Rattle.pg_translate.specs.Inside.spellings.Fronts.{AreBytes, IsIndex, pairs, front_code, front_at, front_in}
 use Rattle.pg_translate.proofs.Codes.{code_more, code_small, code_least}

@@ -1,5 +1,5 @@
 -- The digits of a weight in braces, read one by one.
-use Rattle.std.proofs.Common.{◌≡◌, ℕ, ◌+◌, ◌-◌, ◌<◌, ◌≤◌, ◌==◌, nat_lt, nat_le, Bool, true, false, ◌&&◌, inl, inr, if◌then◌else◌, List, []}
+use Rattle.std.proofs.Common.{◌≡◌, ℕ, ◌+◌, ◌<◌, ◌≤◌, ◌==◌, nat_lt, nat_le, Bool, true, false, ◌&&◌, inl, inr, if◌then◌else◌, List, []}
 use Rattle.std.proofs.Common.{◌∷◌, ◌++◌, length, drop, fold, Option, Some, None, refl, sym, ap, subst, ◌∙◌, take, arith, suc, zero, nat_eq}
 use Rattle.std.specs.Prelude.{take_while, codes}
 use Rattle.std.specs.List.{list_all, starts_with, prefix_len}
@@ -7,9 +7,10 @@ use Rattle.std.specs.Char.{is_ascii_digit}
 use Rattle.std.proofs.lemmas.Bool.{and_parts, and_from, cases_Bool, true≢false, eqb-true, eqb-false, eq-eqb, ne_eqb, lt-ltb, le-leb, ltb-true, leb-true}
 use Rattle.std.proofs.Math.Dec.{leb-suc-zero, leb-suc-suc}
 use Rattle.std.proofs.lemmas.List.{append_assoc, length-append}
-use Rattle.pg_types.specs.Parameters.{with_digit}
+use Rattle.pg_types.specs.Numbers.{with_digit}
 use Rattle.pg_translate.specs.declared.weights.TheConstants.{WEIGHT_DIGITS_MAX}
-use Rattle.pg_translate.specs.Tokens.{Token, Weight, weight_at}
+use Rattle.pg_translate.specs.Tokens.{Token, Weight}
+use Rattle.pg_translate.specs.Inside.items.Kinds.{weight_at}
 use Rattle.pg_translate.proofs.Prefixes.{begins_front, begins_within, begins-append}
 
 -- a weight that ends with a brace, where its value is not 0

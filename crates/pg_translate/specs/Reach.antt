@@ -1,12 +1,13 @@
--- The positions of a word that are in reach.
+-- The positions of a word that are in reach. A word has an edge as its first sign and as its last
+-- one, and position p is the place behind its first p signs.
 use Rattle.std.specs.Prelude.{ℕ, ◌+◌, ◌-◌, nat_le, if◌then◌else◌, List, [], Option, None, Some}
 use Rattle.std.specs.Option.{option_map_or}
 use Rattle.std.specs.List.{range_with_len}
 
--- the first and last position in reach of a word of so many signs; none where it takes no part
+-- the first and last position in reach of a word of n signs, both edges among them; none where it
+-- takes no part
 abbrev pub reach : ℕ → ℕ → ℕ → Option (ℕ × ℕ)
-reach left right signs = if nat_le (left + right + 2) signs then Some (left + 1, signs - right - 1)
-    else None
+reach left right n = if nat_le (left + right + 2) n then Some (left + 1, n - right - 1) else None
 
 -- the positions in reach of a word of so many signs, in order
 abbrev pub positions : ℕ → ℕ → ℕ → List ℕ

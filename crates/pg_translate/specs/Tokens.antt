@@ -1,15 +1,14 @@
 -- The item that begins a text, for both kinds of lines.
-use Rattle.std.specs.Prelude.{ℕ, ◌+◌, ◌-◌, ◌==◌, nat_lt, nat_le, Bool, true, ◌&&◌, ◌||◌, if◌then◌else◌, List, [], ◌∷◌, ◌++◌, length, drop, fold, take_while, slice_index, find, Option, None, Some, option_map, nat_eq, codes}
-use Rattle.std.specs.List.{starts_with}
-use Rattle.std.specs.Option.{option_or}
-use Rattle.pg_types.specs.Parameters.{with_digit}
+use Rattle.std.specs.Prelude.{ℕ, ◌==◌, nat_lt, nat_le, Bool, ◌&&◌, ◌||◌, if◌then◌else◌, List, [], ◌∷◌, ◌++◌, length, drop, fold, map, slice_index_or, take_while, find, Option, nat_eq, codes}
+use Rattle.std.specs.List.{starts_with, enumerate_from, zip}
+use Rattle.std.specs.Char.{is_ascii_digit}
+use Rattle.pg_types.specs.Numbers.{with_digit}
 use Rattle.pg_types.specs.declared.marks.Mark.{Mark}
 use Rattle.pg_types.specs.declared.marks.Mark.TheVariants.{Error, Missed, Found, DontCare}
 use Rattle.pg_translate.specs.declared.weights.TheConstants.{WEIGHT_DIGITS_MAX}
 use Rattle.pg_translate.specs.declared.items.Place.{Place}
 use Rattle.pg_translate.specs.declared.items.Place.TheVariants.{Dictionary, Patterns}
 use Rattle.pg_translate.specs.Alphabets.{Alphabet}
-use Rattle.std.specs.Char.{is_ascii_digit}
 
 -- what an item means: the letter with a sign, a digit, a weight in braces, a mark, or the edge
 pub data Token : Type 0 where
@@ -19,45 +18,28 @@ pub data Token : Type 0 where
   Marked : Mark → Token
   Edge : Token
 
--- the letter whose spelling begins a text, and the length of that spelling
-abbrev pub letter_at : List (ℕ × List ℕ) → List ℕ → Option (Token × ℕ)
-letter_at spellings text = option_map (λ spelling. (Letter spelling.0, length spelling.1))
-    (find (λ spelling. starts_with nat_eq text spelling.1) spellings)
+-- the weight in braces where a text begins with a brace, which is not looked at here: one to four
+-- digits behind it, with a value above 0
+abbrev pub weight_in : List ℕ → List (Token × List ℕ)
+weight_in text = let digits = take_while is_ascii_digit (drop 1 text) in
+    let value = fold with_digit 0 digits in if nat_le (length digits) WEIGHT_DIGITS_MAX
+    && nat_lt 0 value then (Weight value, codes "{" ++ digits ++ codes "}") ∷ [] else []
 
--- the digit that begins a text
-abbrev pub digit_at : List ℕ → Option (Token × ℕ)
-digit_at [] = None
-digit_at (b ∷ bs) = if is_ascii_digit b then Some (Digit (b - 48), 1) else None
+-- what may begin a text, each meaning with its own text: the spellings and the digits, and besides
+-- in a dictionary a weight in braces and the marks, and in patterns a dot for the edge
+abbrev pub items_for : Alphabet → Place → List ℕ → List (Token × List ℕ)
+items_for t place text = map (λ s. (Letter s.0, s.1)) t.spellings
+    ++ map (λ d. (Digit d.0, d.1 ∷ [])) (enumerate_from 0 (codes "0123456789")) ++ elim place [
+      | Dictionary ↦ weight_in text ++ map (λ m. (Marked m.1, m.0 ∷ []))
+          (zip t.marks (Error ∷ Missed ∷ Found ∷ DontCare ∷ []))
+      | Patterns ↦ (Edge, codes ".") ∷ []
+    ]
 
--- the mark whose byte begins a text
-abbrev pub mark_at : List ℕ → List ℕ → Option (Token × ℕ)
-mark_at marks [] = None
-mark_at marks (b ∷ bs) = if b == slice_index marks 0 then Some (Marked Error, 1)
-    else if b == slice_index marks 1 then Some (Marked Missed, 1)
-    else if b == slice_index marks 2 then Some (Marked Found, 1)
-    else if b == slice_index marks 3 then Some (Marked DontCare, 1) else None
+-- the item that begins a text, with its own text
+abbrev pub item_at : Alphabet → Place → List ℕ → Option (Token × List ℕ)
+item_at t place text = find (λ item. starts_with nat_eq text item.1) (items_for t place text)
 
--- the weight in braces that begins a text: one to four digits, with a value above 0
-abbrev pub weight_at : List ℕ → Option (Token × ℕ)
-weight_at text = let digits = take_while is_ascii_digit (drop 1 text) in
-    let value = fold with_digit 0 digits in
-    if starts_with nat_eq text (codes "{" ++ digits ++ codes "}")
-    && nat_le (length digits) WEIGHT_DIGITS_MAX && nat_lt 0 value
-    then Some (Weight value, length digits + 2) else None
-
--- the dot of the edge, where it begins a text
-abbrev pub edge_at : List ℕ → Option (Token × ℕ)
-edge_at [] = None
-edge_at (b ∷ bs) = if b == 46 then Some (Edge, 1) else None
-
--- the item that begins a text, and the length of its own text
-abbrev pub item_at : Alphabet → Place → List ℕ → Option (Token × ℕ)
-item_at t Dictionary text = option_or (letter_at t.spellings text)
-    (option_or (digit_at text) (option_or (weight_at text) (mark_at t.marks text)))
-item_at t Patterns text = option_or (letter_at t.spellings text)
-    (option_or (digit_at text) (edge_at text))
-
--- whether a line ends here: at its end, or at a blank or TAB
+-- whether what is read of a line ends here: at its end, or at a blank or TAB, behind which stands a
+-- remark
 abbrev pub is_ended : List ℕ → Bool
-is_ended [] = true
-is_ended (b ∷ bs) = b == 32 || b == 9
+is_ended text = let b = slice_index_or text 0 32 in b == 32 || b == 9

@@ -1,7 +1,6 @@
 //! The head of a translate file: the minima and the mark bytes.
 ghost use Rattle.std.specs.Prelude.{◌≡◌, ◌<◌, ◌≤◌, ◌∷◌, [], true, false, not, List, MatchOption, IfSome, MatchResult, Ok, Err, IfOk, OnOk, ◌+◌};
 ghost use Rattle.pg_types.specs.ValuesOrRefusals.{refusal_at};
-ghost use Rattle.pg_translate.specs.Tables as table;
 ghost use Rattle.pg_translate.specs.Inside.tables.Checks as checks;
 
 use crate::reading::is_space;
@@ -45,7 +44,7 @@ pub(crate) struct Head {
 /// The byte in a column of the head, counted from 1; a column past its end is blank.
 fn in_column(head: &[u8], column: usize) -> u8
     requires { 0 < column }
-    ensures { result ≡ table.in_column head.now column }
+    ensures { result ≡ checks.in_column head.now column }
 {
     match head.get(column - 1) {
         Some(&byte) => byte,
@@ -75,7 +74,7 @@ fn pair_value(first: u8, second: u8) -> u8
 }
 
 /// The pair of bytes that begins at a column of the head.
-fn pair_at(head: &[u8], column: usize) -> (u8, u8)
+pub(crate) fn pair_at(head: &[u8], column: usize) -> (u8, u8)
     requires some { 0 < column }
     requires few { column < 100 }
     ensures { result ≡ checks.pair_at head.now column }
@@ -85,7 +84,7 @@ fn pair_at(head: &[u8], column: usize) -> (u8, u8)
 
 /// The minimum of a pair beside the other pair, where two blanks mean a default; none where the
 /// pair fails.
-fn minimum(pair: (u8, u8), other: (u8, u8), default: u8) -> Option<u8>
+pub(crate) fn minimum(pair: (u8, u8), other: (u8, u8), default: u8) -> Option<u8>
     requires some { 0 < default }
     requires few { default ≤ MINIMUM_MAX }
     ensures value { MatchOption result (checks.pair_fails pair other ≡ true)
@@ -101,7 +100,7 @@ fn minimum(pair: (u8, u8), other: (u8, u8), default: u8) -> Option<u8>
 }
 
 /// The mark byte in a column of the head; a blank means a default.
-fn mark_in(head: &[u8], column: usize, default: u8) -> u8
+pub(crate) fn mark_in(head: &[u8], column: usize, default: u8) -> u8
     requires { 0 < column }
     ensures { result ≡ checks.mark_in head.now column default }
 {
@@ -112,7 +111,7 @@ fn mark_in(head: &[u8], column: usize, default: u8) -> u8
 /// Whether a byte may not be a mark: it is a digit, a blank, a TAB, an LF, a CR or `{`, or equals
 /// an earlier mark. In a head a blank stands for a default, and no head holds an LF. Both are in
 /// the rule all the same, so that the rules of a table alone show that items end where lines do.
-fn mark_fails(earlier: &[u8], mark: u8) -> bool
+pub(crate) fn mark_fails(earlier: &[u8], mark: u8) -> bool
     ensures { result ≡ checks.mark_fails earlier.now mark }
 {
     mark.is_ascii_digit() || is_space(mark) || mark == b'{' || earlier.contains(&mark)

@@ -3,11 +3,11 @@
 ghost use Rattle.std.specs.Prelude.{◌≡◌, ℕ, ◌+◌, ◌<◌, ◌≤◌, false, ◌++◌, ◌==◌, if◌then◌else◌, ◌∷◌, [], List, length, MatchOption, IfSome, IfOk, OnOk, Some, None, slice_get, map};
 ghost use Rattle.std.specs.List.{list_any, flat_map, range_with_len};
 ghost use Rattle.pg_translate.specs.declared.head.TheConstants.{A_TO_Z};
-ghost use Rattle.pg_translate.specs.Tables.{default_letter};
+ghost use Rattle.pg_translate.specs.Inside.tables.Checks.{default_letter};
 ghost use Rattle.std.specs.Option.{option_or};
 ghost use Rattle.pg_translate.specs.Spellings.{clash};
 ghost use Rattle.pg_translate.specs.Inside.spellings.FirstSpellings.{first_spelling, letters_in};
-ghost use Rattle.pg_translate.specs.Tokens.{letter_at};
+ghost use Rattle.pg_translate.specs.Inside.items.Kinds.{letter_at};
 ghost use Rattle.pg_translate.specs.Tokens as token;
 ghost use Rattle.pg_translate.specs.Inside.spellings.Fronts.{pairs, firsts_of, front_at, front_code, front_of, AreBytes, IsIndex};
 

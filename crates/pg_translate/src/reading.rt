@@ -35,7 +35,7 @@ pub(crate) fn is_space(byte: u8) -> bool
 }
 
 /// Whether a text holds such a byte.
-fn has_space(text: &[u8]) -> bool
+pub(crate) fn has_space(text: &[u8]) -> bool
     ensures { result ≡ list_any spelling.is_space text.now }
 {
     text.iter().any(|byte| is_space(*byte))
@@ -54,7 +54,7 @@ fn begins_well(marks: &[u8], text: &[u8]) -> bool
 
 /// Whether a text may be a spelling beside these marks.
 #[tactic(auto, using(crate::proofs::Beginnings::begins_as))]
-fn is_spelling(marks: &[u8], text: &[u8]) -> bool
+pub(crate) fn is_spelling(marks: &[u8], text: &[u8]) -> bool
     ensures { result ≡ spelling.is_spelling marks.now text.now }
 {
     text.len() <= SPELLING_MAX && begins_well(marks, text) && !has_space(text)
@@ -77,7 +77,7 @@ fn add_spelling(
     requires high { letter ≤ letters_in (pairs index.old) + 1 }
     ensures answer { Gives (λ _. tt) result
         (checks.first_failure (table.spelling_check marks.now (pairs index.old)
-        (record { line = line; column = column; letter = letter; text = text.now }))) }
+        (record { line = line; column = column; spelling = (letter + 1, text.now) }))) }
     ensures spellings { OnOk result
         (pairs index.new ≡ pairs index.old ++ (letter + 1, text.now) ∷ []) }
     ensures letters { OnOk result
@@ -106,7 +106,7 @@ fn find_delimiter(delimiter: u8, rest: &[u8]) -> Option<usize>
 
 /// The first piece of what is left of a letter line behind its delimiter, and what follows it; none
 /// where the piece is empty: the pieces end there.
-fn next_piece(delimiter: u8, rest: &[u8]) -> Option<(&[u8], &[u8])>
+pub(crate) fn next_piece(delimiter: u8, rest: &[u8]) -> Option<(&[u8], &[u8])>
     ensures pieces { MatchOption result (checks.pieces_of delimiter rest.now ≡ [])
         (λ p. checks.pieces_of delimiter rest.now ≡ p.0.now ∷ checks.pieces_of delimiter p.1.now) }
     ensures some { IfSome result (λ p. 0 < length p.0.now) }
@@ -138,7 +138,7 @@ fn add_pieces(
         (checks.spellings_outcome marks.now (pairs index.old)
         (checks.spellings_behind line letter delimiter text.now)) }
     ensures spellings { OnOk result
-        (pairs index.new ≡ pairs index.old ++ map table.spelling_with_sign
+        (pairs index.new ≡ pairs index.old ++ map checks.spelling_with_sign
         (checks.spellings_behind line letter delimiter text.now)) }
     ensures letters { OnOk result (letters_in (pairs index.new) ≤ SIGNS_MAX - 1) }
     ensures sound { OnOk result (IsIndex index.new) }
@@ -154,7 +154,7 @@ fn add_pieces(
 }
 
 /// A line without the blanks at its end.
-fn without_blanks(line: &[u8]) -> &[u8]
+pub(crate) fn without_blanks(line: &[u8]) -> &[u8]
     ensures value { result.now ≡ checks.without_blanks line.now }
     ensures within { length result.now ≤ length line.now }
 {
@@ -175,7 +175,7 @@ fn add_line(index: &mut Index, marks: &[u8], line: u32, text: &[u8]) -> Result<(
         checks.spellings_outcome marks.now (pairs index.old)
         (checks.spellings_of_line line letter text.now)) }
     ensures spellings { OnOk result
-        (pairs index.new ≡ pairs index.old ++ map table.spelling_with_sign
+        (pairs index.new ≡ pairs index.old ++ map checks.spelling_with_sign
         (checks.spellings_of_line line (letters_in (pairs index.old) + 1) text.now)) }
     ensures letters { OnOk result (letters_in (pairs index.new) ≤ SIGNS_MAX - 1) }
     ensures sound { OnOk result (IsIndex index.new) }
@@ -193,7 +193,7 @@ pub(crate) fn read_letters(alloc: Global, marks: &[u8], text: &[u8]) -> Result<I
     requires { length text.now ≤ FILE_MAX }
     ensures answer { let all = checks.spellings_from 2 1 (lines text.now) in Gives pairs result
         (first_refusal (checks.spelling_checks_from marks.now [] all)
-        (map table.spelling_with_sign all)) }
+        (map checks.spelling_with_sign all)) }
     ensures sound { IfOk result IsIndex }
 {
     let mut index = Index::new(alloc);

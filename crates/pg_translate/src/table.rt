@@ -45,7 +45,8 @@ impl Table {
     ghost use Rattle.pg_translate.specs.Inside.tables.Rules.{KeepsRules};
     ghost use Rattle.pg_types.specs.Inside.reading.Answers.{Gives};
     ghost use Rattle.pg_translate.specs.Tables.{default_alphabet, table};
-    ghost use Rattle.pg_translate.specs.Tokens.{letter_at, mark_at, is_ended};
+    ghost use Rattle.pg_translate.specs.Tokens.{is_ended};
+    ghost use Rattle.pg_translate.specs.Inside.items.Kinds.{letter_at, mark_at};
     ghost use Rattle.pg_translate.specs.Tokens as token;
     ghost use Rattle.pg_translate.specs.Inside.items.Answers.{IsFirstItem, IsInRange};
     ghost use Rattle.pg_translate.specs.Reach.{reach};

@@ -1,6 +1,6 @@
 //! Weights in braces.
 ghost use Rattle.std.specs.Prelude.{◌≡◌, ◌<◌, ◌≤◌, nat_lt, length, MatchOption, IfSome, Some, None};
-ghost use Rattle.pg_translate.specs.Tokens.{weight_at};
+ghost use Rattle.pg_translate.specs.Inside.items.Kinds.{weight_at};
 ghost use Rattle.pg_translate.specs.Tokens as token;
 
 use pg_types::{WEIGHT_MAX, Weight};

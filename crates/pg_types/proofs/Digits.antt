@@ -4,7 +4,7 @@ use Rattle.std.specs.List.{list_all}
 use Rattle.std.specs.Char.{is_ascii_digit}
 use Rattle.std.proofs.lemmas.List.{drop_more}
 use Rattle.std.proofs.lemmas.Bool.{cases_Bool}
-use Rattle.pg_types.specs.Parameters.{with_digit}
+use Rattle.pg_types.specs.Numbers.{with_digit}
 use Rattle.pg_types.specs.Inside.reading.Parts.{number_from}
 
 min_fold : (t : ℕ) (digits : List ℕ) (n : ℕ) → min (fold with_digit (min n t) digits) t ≡ min (fold with_digit n digits) t

@@ -7,7 +7,7 @@ use Rattle.std.specs.Cmp.{IsTotalOrder, tied_itself}
 use Rattle.std.specs.FinMap.Entries.{put, find, is_sorted, below_all, by_order}
 use Rattle.std.specs.List.{AllByRecursion, filter, list_all}
 use Rattle.std.specs.List.Sorted.{IsStrictlySortedBy}
-use Rattle.std.specs.Map.{keys_of, lookup, set_value}
+use Rattle.std.specs.Map.{keys_of, set_value}
 use Rattle.std.specs.BTreeMap.{insert_entry, is_at}
 use Rattle.pg_types.proofs.BoolFacts.{and_first, and_second, is_true, holds, first_half, second_half, less_is, some_is}
 use Rattle.std.proofs.lemmas.Bool.{and_from}
@@ -31,10 +31,6 @@ module _ {K X : Type 0} (R : K → K → Ordering) where
         | Equal ↦ refl
         | Greater ↦ ap (λ r. e ∷ r) (insert-put k v es)
       ]
-
-  pub lookup-find : (k : K) (es : List (K × X)) → lookup (is_at (R k)) es ≡ find R k es
-  lookup-find k [] = refl
-  lookup-find k (e ∷ es) = ap (λ r. cond (is_eq (R k e.0)) (Some e.1) r) (lookup-find k es)
 
   find_below : (k : K) (es : List (K × X)) → T (below_all R k es) → find R k es ≡ None
   find_below k [] below = refl

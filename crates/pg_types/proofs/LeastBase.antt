@@ -1,10 +1,10 @@
 -- The base of a placement is the least one from the lowest on at which the signs may stand.
-use Rattle.std.proofs.Common.{◌≡◌, ℕ, ◌+◌, ◌-◌, ◌<◌, ◌≤◌, max, inl, inr, Bool, true, false, not, cond, ◌||◌, nat_eq, nat_le, List, [], ◌∷◌, length, map, fold, suc, zero, refl, sym, ◌∙◌, ap, subst, arith}
+use Rattle.std.proofs.Common.{◌≡◌, ℕ, ◌+◌, ◌-◌, ◌<◌, ◌≤◌, max, inl, inr, Bool, true, false, not, cond, ◌||◌, nat_eq, nat_le, List, [], ◌∷◌, length, map, fold, suc, zero, refl, sym, ◌∙◌, ap, subst, arith, Some, unwrap_or}
 use Rattle.std.proofs.lemmas.Bool.{cases_Bool, cases_eq, false≢true, or_cases, or_left, or_right, and_parts, and_from, eqb-true, eq-eqb, ne_eqb, leb-true}
 use Rattle.std.proofs.lemmas.List.Folds.{list_any-append}
-use Rattle.std.specs.List.{list_any, list_all}
-use Rattle.pg_types.specs.Placement.{Families, used_cells, top, is_used, first_from}
-use Rattle.pg_types.specs.Inside.PlacementSteps.{is_base, fits_at, lowest_base, least_base}
+use Rattle.std.specs.List.{find, list_any, list_all, range_with_len}
+use Rattle.pg_types.specs.Placement.{Families, used_cells, top, fits_at}
+use Rattle.pg_types.specs.Inside.PlacementSteps.{is_used, is_base, lowest_base, least_base}
 use Rattle.pg_types.specs.declared.limits.TheConstants.{FEW_SIGNS, FAR_BELOW}
 use Rattle.pg_types.specs.Inside.Placing.{IsLeast, cells_of}
 
@@ -61,18 +61,28 @@ past_top : (fs : Families) (signs : List ℕ) (b : ℕ) → have_signs fs ≡ tr
 past_top fs signs b some past =
     and_from (not (is_base fs b)) (list_all (λ s. not (is_used fs (b + s))) signs) (ap not (no_base fs b some (λ i e. let le = used_le_top fs i e in omega arith))) (none_used fs signs b past)
 
-first_from_is : (test : ℕ → Bool) (more from : ℕ) → test (from + more) ≡ true → IsLeast test from (first_from test more from)
-first_from_is test zero from last = record { from = omega arith; meets = (let same : from ≡ from + 0 = omega arith in ap test same ∙ last); first = λ k le lt. absurd (omega arith) }
-first_from_is test (suc more) from last = elim (cases_Bool (test from)) [
-  | inl passed ↦ subst (λ t. IsLeast test from (elim t as (λ _. ℕ) [ true ↦ from | false ↦ first_from test more (from + 1) ])) (sym passed) (record {
-    from = omega arith;
-    meets = passed;
-    first = λ k le lt. absurd (omega arith);
-  })
+-- the first of a range that meets the test
+pub find_first : (test : ℕ → Bool) (from : ℕ) (xs : List ℕ) → test from ≡ true → unwrap_or (find test (from ∷ xs)) 0 ≡ from
+find_first test from xs passed = ap (λ b. unwrap_or (cond b (Some from) (find test xs)) 0) passed
+
+pub find_later : (test : ℕ → Bool) (from : ℕ) (xs : List ℕ) → test from ≡ false → unwrap_or (find test (from ∷ xs)) 0 ≡ unwrap_or (find test xs) 0
+find_later test from xs failed = ap (λ b. unwrap_or (cond b (Some from) (find test xs)) 0) failed
+
+found_here : (test : ℕ → Bool) (from : ℕ) (xs : List ℕ) → test from ≡ true → IsLeast test from (unwrap_or (find test (from ∷ xs)) 0)
+found_here test from xs passed = subst (IsLeast test from) (sym (find_first test from xs passed)) (record {
+  from = omega arith;
+  meets = passed;
+  first = λ k le lt. absurd (omega arith);
+})
+
+found_is : (test : ℕ → Bool) (more from : ℕ) → test (from + more) ≡ true → IsLeast test from (unwrap_or (find test (range_with_len from (suc more))) 0)
+found_is test zero from last = let same : from ≡ from + 0 = omega arith in found_here test from [] (ap test same ∙ last)
+found_is test (suc more) from last = elim (cases_Bool (test from)) [
+  | inl passed ↦ found_here test from (range_with_len (from + 1) (suc more)) passed
   | inr failed ↦
       let same : from + 1 + more ≡ from + suc more = omega arith in
-      let rest = first_from_is test more (from + 1) (ap test same ∙ last) in
-      subst (λ t. IsLeast test from (elim t as (λ _. ℕ) [ true ↦ from | false ↦ first_from test more (from + 1) ])) (sym failed) (record {
+      let rest = found_is test more (from + 1) (ap test same ∙ last) in
+      subst (IsLeast test from) (sym (find_later test from (range_with_len (from + 1) (suc more)) failed)) (record {
         from = omega (arith, rest.from);
         meets = rest.meets;
         first = λ k le lt. elim (cases_eq k from) [
@@ -83,21 +93,19 @@ first_from_is test (suc more) from last = elim (cases_Bool (test from)) [
 ]
 
 -- no base below 1 is tried
-pub lowest_up : (b : Bool) (k : ℕ) → 1 ≤ cond b 1 (max 1 k)
+lowest_up : (b : Bool) (k : ℕ) → 1 ≤ cond b 1 (max 1 k)
 lowest_up true k = omega arith
 lowest_up false k = omega arith
 
 pub lowest_positive : (n count t : ℕ) → 1 ≤ lowest_base n count t
 lowest_positive n count t = lowest_up (nat_le count FEW_SIGNS) (t - max FAR_BELOW n)
 
--- a search from a lowest base of at least 1 on finds the least base, from there on, that no family has and where the cells of
--- the signs are unused
-pub least_base_is : (lowest : ℕ → ℕ → ℕ) (fs : Families) (signs : List ℕ) → have_signs fs ≡ true → 1 ≤ lowest (length signs) (top fs)
-    → IsLeast (fits_at fs signs) (lowest (length signs) (top fs)) (least_base lowest fs signs)
-least_base_is lowest fs signs some up =
-    first_from_is (fits_at fs signs) (top fs) (lowest (length signs) (top fs)) (past_top fs signs (lowest (length signs) (top fs) + top fs) some (omega arith))
-
--- so does the placement of patterns
-pub pattern_base_is : (n : ℕ) (fs : Families) (signs : List ℕ) → have_signs fs ≡ true
-    → IsLeast (fits_at fs signs) (lowest_base n (length signs) (top fs)) (least_base (lowest_base n) fs signs)
-pattern_base_is n fs signs some = least_base_is (lowest_base n) fs signs some (lowest_positive n (length signs) (top fs))
+-- the search finds the least base, from the lowest on, that no family has and where the cells of the signs are unused
+pub least_base_is : (n : ℕ) (fs : Families) (signs : List ℕ) → have_signs fs ≡ true
+    → IsLeast (fits_at fs signs) (lowest_base n (length signs) (top fs)) (least_base n fs signs)
+least_base_is n fs signs some =
+    let low = lowest_base n (length signs) (top fs) in
+    let up : 1 ≤ low = lowest_positive n (length signs) (top fs) in
+    let more : top fs + 1 ≡ suc (top fs) = omega arith in
+    subst (λ k. IsLeast (fits_at fs signs) low (unwrap_or (find (fits_at fs signs) (range_with_len low k)) 0)) (sym more)
+    (found_is (fits_at fs signs) (top fs) low (past_top fs signs (low + top fs) some (omega arith)))

@@ -1,8 +1,8 @@
 -- The layout step by step, and the cells of small tables, computed. In the first table the edge is sign 1, `a` 2, `b` 3 and
 -- `c` 4.
 use Rattle.std.proofs.Common.{◌≡◌, ℕ, [], ◌∷◌, Some, refl}
-use Rattle.pg_types.specs.Placement.{Families, root, enter, with_sign, kept_families, taken_count, top, base_of}
-use Rattle.pg_types.specs.Inside.PlacementSteps.{lowest_base}
+use Rattle.pg_types.specs.Placement.{Families, root, enter, with_sign, kept_families, top, base_of}
+use Rattle.pg_types.specs.Inside.PlacementSteps.{taken_count}
 use Rattle.pg_types.specs.Inside.Placing.{cell_of, without_sign}
 use Rattle.pg_types.specs.Tails.{tails}
 
@@ -121,18 +121,18 @@ three_tails : tails (((2 ∷ [], 0), 1) ∷ ((2 ∷ [], 1), 3) ∷ ((3 ∷ [], 1
 three_tails = refl
 
 -- a table of one sign
-one_sign : base_of (with_sign (lowest_base 1) (root 1) (1 ∷ []) 1) (1 ∷ []) ≡ Some 1
+one_sign : base_of (with_sign 1 (root 1) (1 ∷ []) 1) (1 ∷ []) ≡ Some 1
 unfolding with_sign
 one_sign = refl
 
-one_sign_cell : cell_of (with_sign (lowest_base 1) (root 1) (1 ∷ []) 1) (1 ∷ 1 ∷ []) ≡ Some 2
+one_sign_cell : cell_of (with_sign 1 (root 1) (1 ∷ []) 1) (1 ∷ 1 ∷ []) ≡ Some 2
 unfolding with_sign
 one_sign_cell = refl
 
-one_sign_twice : cell_of (with_sign (lowest_base 1) (with_sign (lowest_base 1) (root 1) (1 ∷ []) 1) (1 ∷ 1 ∷ []) 1) (1 ∷ 1 ∷ 1 ∷ []) ≡ Some 3
+one_sign_twice : cell_of (with_sign 1 (with_sign 1 (root 1) (1 ∷ []) 1) (1 ∷ 1 ∷ []) 1) (1 ∷ 1 ∷ 1 ∷ []) ≡ Some 3
 unfolding with_sign
 one_sign_twice = refl
 
-one_sign_twice_base : base_of (with_sign (lowest_base 1) (with_sign (lowest_base 1) (root 1) (1 ∷ []) 1) (1 ∷ 1 ∷ []) 1) (1 ∷ 1 ∷ []) ≡ Some 2
+one_sign_twice_base : base_of (with_sign 1 (with_sign 1 (root 1) (1 ∷ []) 1) (1 ∷ 1 ∷ []) 1) (1 ∷ 1 ∷ []) ≡ Some 2
 unfolding with_sign
 one_sign_twice_base = refl

@@ -3,8 +3,8 @@ use Rattle.std.proofs.Common.{◌≡◌, ℕ, ◌≤◌, ◌==◌, inl, inr, Boo
 use Rattle.std.specs.List.{position_or_len, position}
 use Rattle.std.proofs.lemmas.List.Sums.{prefix_len-le-length}
 use Rattle.std.proofs.lemmas.Bool.{cases_Bool, eqb-true}
-use Rattle.pg_types.specs.Lines.{pieces_at}
-use Rattle.pg_types.specs.Parameters.{items, has_byte}
+use Rattle.pg_types.specs.Lines.{has_byte, pieces_at}
+use Rattle.pg_types.specs.Parameters.{items}
 use Rattle.pg_types.specs.Inside.reading.ItemSteps.{is_separator}
 
 -- where a search finds it, or the length

@@ -1,8 +1,7 @@
--- Entries of strings in their order: what is found after one is put, and what is found of entries seen through a function.
-use Rattle.std.proofs.Common.{◌≡◌, ◌≢◌, ℕ, ◌⊎◌, inl, inr, Bool, true, false, cond, ◌&&◌, T, List, [], ◌∷◌, map, Option, None, Some, refl, sym, ◌∙◌, ap, subst}
+-- Entries of strings in their order: what is found after one is put.
+use Rattle.std.proofs.Common.{◌≡◌, ◌≢◌, ℕ, ◌⊎◌, inl, inr, Bool, true, false, cond, T, List, [], ◌∷◌, None, Some, refl, sym, ◌∙◌, ap}
 use Rattle.std.proofs.lemmas.Bool.{cases_Bool, false≢true}
 use Rattle.std.proofs.lemmas.Cmp.{nat_list_cmp_total}
-use Rattle.std.specs.Option.{option_map}
 use Rattle.std.specs.declared.cmp.Ordering.{Ordering}
 use Rattle.std.specs.declared.cmp.Ordering.TheVariants.{Less, Equal, Greater}
 use Rattle.std.specs.Ordering.{nat_cmp, eq_by_cmp, is_eq, is_lt}
@@ -64,49 +63,3 @@ module _ {X : Type 0} where
 
   pub tail_sorted : (e : List ℕ × X) (es : List (List ℕ × X)) → T (is_sorted order (e ∷ es)) → T (is_sorted order es)
   tail_sorted e es h = second_half (below_all order e.0 es) (is_sorted order es) h
-
-  -- where one string is found with a value, and each other string as in a map, the value is put into that map
-  pub put_from : (q : List ℕ) (y : X) (old new : List (List ℕ × X)) → T (is_sorted order old) → T (is_sorted order new) → find order q new ≡ Some y
-      → ((p : List ℕ) → p ≢ q → find order p new ≡ find order p old) → new ≡ put order q y old
-  put_from q y old new g h here there = same_maps new (put order q y old) h (sorted_put q y old g) (λ p. elim (equal_or_not p q) [
-    | inl same ↦ ap (λ r. find order r new) same.0 ∙ here ∙ sym (ap (λ r. find order r (put order q y old)) same.0 ∙ find_put_same q y old)
-    | inr other ↦ there p other.0 ∙ sym (find_put_other p q y old other.0)
-  ])
-
-module _ {X Y : Type 0} (f : X → Y) where
-  -- the values seen through a function
-  abbrev pub mapped : List (List ℕ × X) → List (List ℕ × Y)
-  mapped es = map (λ e. (e.0, f e.1)) es
-
-  pub find_mapped : (q : List ℕ) (es : List (List ℕ × X)) → find order q (mapped es) ≡ option_map f (find order q es)
-  find_mapped q [] = refl
-  find_mapped q (e ∷ es) = ap (cond (same_string q e.0) (Some (f e.1))) (find_mapped q es) ∙ by (same_string q e.0)
-    where
-      by : (b : Bool) → cond b (Some (f e.1)) (option_map f (find order q es)) ≡ option_map f (cond b (Some e.1) (find order q es))
-      by true = refl
-      by false = refl
-
-  pub found_mapped : (q : List ℕ) (x : X) (es : List (List ℕ × X)) → find order q es ≡ Some x → find order q (mapped es) ≡ Some (f x)
-  found_mapped q x es e = find_mapped q es ∙ ap (option_map f) e
-
-  pub none_mapped : (q : List ℕ) (es : List (List ℕ × X)) → find order q es ≡ None → find order q (mapped es) ≡ None
-  none_mapped q es e = find_mapped q es ∙ ap (option_map f) e
-
-  below_mapped : (q : List ℕ) (es : List (List ℕ × X)) → below_all order q (mapped es) ≡ below_all order q es
-  below_mapped q [] = refl
-  below_mapped q (e ∷ es) = ap (λ b. is_lt (order q e.0) && b) (below_mapped q es)
-
-  sorted_same : (es : List (List ℕ × X)) → is_sorted order (mapped es) ≡ is_sorted order es
-  sorted_same [] = refl
-  sorted_same (e ∷ es) = λ i. below_mapped e.0 es i && sorted_same es i
-
-  pub sorted_mapped : (es : List (List ℕ × X)) → T (is_sorted order es) → T (is_sorted order (mapped es))
-  sorted_mapped es h = subst T (sym (sorted_same es)) h
-
-  -- what was found is the function of what is found
-  pub unmapped : (q : List ℕ) (y : Y) (es : List (List ℕ × X)) → find order q (mapped es) ≡ Some y → (x : X) × (find order q es ≡ Some x) × (y ≡ f x)
-  unmapped q y es e = by (find order q es) refl
-    where
-      by : (o : Option X) → find order q es ≡ o → (x : X) × (find order q es ≡ Some x) × (y ≡ f x)
-      by None d = absurd (let no : None ≡ Some y = sym (none_mapped q es d) ∙ e in cc)
-      by (Some x) d = (x, d, (let is : Some (f x) ≡ Some y = sym (found_mapped q x es d) ∙ e in cc))

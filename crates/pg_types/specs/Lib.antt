@@ -1,6 +1,7 @@
 pub mod Refusals
 pub mod ValuesOrRefusals
 pub mod Lines
+pub mod Numbers
 pub mod Parameters
 pub mod Placement
 pub mod Tails

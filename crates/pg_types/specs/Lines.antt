@@ -1,5 +1,5 @@
 -- How a file is cut into lines.
-use Rattle.std.specs.Prelude.{ℕ, ◌-◌, ◌==◌, Bool, if◌then◌else◌, List, [], ◌∷◌, length, map, take, slice_index}
+use Rattle.std.specs.Prelude.{ℕ, ◌-◌, ◌==◌, Bool, true, false, if◌then◌else◌, List, [], ◌∷◌, length, map, take, slice_index}
 use Rattle.std.specs.List.{onto_first}
 
 -- the pieces between the bytes that pass a test; an empty piece at the end does not count
@@ -16,3 +16,8 @@ is_line_feed b = b == 10
 abbrev pub lines : List ℕ → List (List ℕ)
 lines bytes = map (λ line. if slice_index line (length line - 1) == 13
     then take (length line - 1) line else line) (pieces_at is_line_feed bytes)
+
+-- whether a piece has a byte
+abbrev pub has_byte : List ℕ → Bool
+has_byte [] = false
+has_byte (b ∷ bs) = true

@@ -1,5 +1,5 @@
 //! Rows of bits, kept in numbers of 64 bits.
-ghost use Rattle.std.specs.Prelude.{◌≡◌, ◌<◌, ◌*◌, ◌+◌, ◌||◌, ◌&&◌, ◌==◌, ℕ, not, length, slice_index};
+ghost use Rattle.std.specs.Prelude.{◌≡◌, ◌<◌, ◌*◌, ◌+◌, ◌^◌, ◌||◌, ◌&&◌, ◌==◌, ℕ, not, length, slice_index};
 ghost use Rattle.std.specs.Int.{bit_at};
 ghost use Rattle.pg_types.specs.Inside.Bits.{has_bit};
 
@@ -39,7 +39,21 @@ pub fn bits_from(row: &[u64], i: usize) -> u64
 {
     let at = i / NUMBER_BITS;
     let bit = i % NUMBER_BITS;
-    number_at(row, at) >> bit | number_at(row, at + 1) << 1 << (NUMBER_BITS - 1 - bit)
+    let (here, next) = numbers_at(row, at);
+    here >> bit | next << 1 << (NUMBER_BITS - 1 - bit)
+}
+
+// The number at an index of a row and the one behind it; 0 past the end. Mostly both are there.
+#[inline]
+fn numbers_at(row: &[u64], at: usize) -> (u64, u64)
+    requires { at < 2 ^ 63 }
+    ensures here { result.0 ≡ slice_index row.now at }
+    ensures next { result.1 ≡ slice_index row.now (at + 1) }
+{
+    if at + 1 < row.len() {
+        return (row[at], row[at + 1]);
+    }
+    (number_at(row, at), 0)
 }
 
 // The number at an index of a row; 0 past the end.

@@ -1,9 +1,11 @@
 //! The items of a parameters file, taken one after the other.
-ghost use Rattle.std.specs.Prelude.{◌≡◌, ◌<◌, ◌≤◌, ◌+◌, ◌++◌, ◌∷◌, [], List, length, drop, min, option_map, IfOk, OnOk, None, Some, IfErr, IfSome, MatchOption, not, position, ◌-◌, nat_lt, slice_index};
+ghost use Rattle.std.specs.Prelude.{◌≡◌, ◌<◌, ◌≤◌, ◌+◌, ◌∷◌, [], length, min, option_map, IfOk, OnOk, IfErr, MatchOption, Some, not, drop, position};
 ghost use Rattle.std.specs.List.{position_or_len};
 ghost use Rattle.pg_types.specs.ValuesOrRefusals.{refusal_at};
-ghost use Rattle.pg_types.specs.Inside.reading.ItemSteps.{Demand, number_between, Meets, Misses, is_separator as is_separator_byte, level_demands};
-ghost use Rattle.pg_types.specs.Parameters.{items, number, number_at, level_of, refusal_from, surplus, is_answer as is_answer_item};
+ghost use Rattle.pg_types.specs.Inside.reading.ItemSteps.{HasNothing, HasSurplus, RefusesLevel, RefusesNumber, TakesLevel, TakesNumber, is_separator as is_separator_byte};
+ghost use Rattle.pg_types.specs.Inside.reading.Demands.{first_number};
+ghost use Rattle.pg_types.specs.Numbers.{number};
+ghost use Rattle.pg_types.specs.Parameters.{items, is_answer as is_answer_item};
 ghost use Rattle.pg_types.specs.Inside.Ranges.{IsLevel};
 
 use crate::limits::{COST_MAX, ITEMS_MAX, LENGTH_MAX};
@@ -61,7 +63,7 @@ pub fn next_item(rest: &[u8]) -> Option<(&[u8], &[u8])>
 }
 
 /// The number that an item is, cut to `TOO_GREAT`; none where it is no number.
-fn read_number(item: &[u8]) -> Option<u32>
+pub fn read_number(item: &[u8]) -> Option<u32>
     ensures { result ≡ option_map (λ n. min n TOO_GREAT) (number item.now) }
 {
     let mut value = 0;
@@ -84,8 +86,8 @@ pub fn is_answer(item: &[u8]) -> bool
 /// The items that are left, and the number of the next, counted from 1.
 #[derive(Clone, Copy)]
 pub struct Items<'a> {
-    rest: &'a [u8],
-    item_number: u32,
+    pub(crate) rest: &'a [u8],
+    pub(crate) item_number: u32,
 }
 
 impl<'a> Items<'a> {
@@ -104,14 +106,14 @@ impl<'a> Items<'a> {
     pub fn number(&mut self, least: u32, greatest: u32) -> Result<u32, Refusal>
         requires range { greatest ≤ COST_MAX }
         requires item_number { self.old.item_number < ITEMS_MAX }
-        ensures value { IfOk result (λ n. n ≡ number_at (items self.old.rest.now) 0) }
         ensures low { IfOk result (λ n. least ≤ n) }
         ensures high { IfOk result (λ n. n ≤ greatest) }
-        ensures rest { OnOk result (items self.new.rest.now ≡ drop 1 (items self.old.rest.now)) }
         ensures item_number { OnOk result (self.new.item_number ≡ self.old.item_number + 1) }
-        ensures passed { OnOk result (Meets (number_between least greatest
-            ∷ []) self.old self.new) }
-        ensures refused { IfErr result (Misses (number_between least greatest ∷ []) self.old) }
+        ensures first { IfOk result (λ n. first_number (items self.old.rest.now) ≡ Some n) }
+        ensures rest { OnOk result
+            (items self.new.rest.now ≡ drop 1 (items self.old.rest.now)) }
+        ensures taken { IfOk result (TakesNumber least greatest self.old self.new) }
+        ensures refused { IfErr result (RefusesNumber least greatest self.old) }
     {
         let Some((item, rest)) = next_item(self.rest) else {
             return Err(self.refusal(Kind::Missing));
@@ -130,13 +132,10 @@ impl<'a> Items<'a> {
     /// Takes the five numbers of a level.
     pub fn level(&mut self) -> Result<LevelParams, Refusal>
         requires { self.old.item_number + 5 ≤ ITEMS_MAX }
-        ensures value { IfOk result (λ level. level ≡ level_of (items self.old.rest.now)) }
         ensures ranges { IfOk result (λ level. IsLevel level) }
-        ensures rest { OnOk result (items self.new.rest.now ≡ drop 5 (items self.old.rest.now)) }
         ensures item_number { OnOk result (self.new.item_number ≡ self.old.item_number + 5) }
-        ensures passed { OnOk result
-            (Meets (level_demands (items self.old.rest.now)) self.old self.new) }
-        ensures refused { IfErr result (Misses (level_demands (items self.old.rest.now)) self.old) }
+        ensures taken { IfOk result (TakesLevel self.old self.new) }
+        ensures refused { IfErr result (RefusesLevel self.old) }
     {
         let pat_start = self.number(1, LENGTH_MAX as u32)?;
         let pat_finish = self.number(pat_start, LENGTH_MAX as u32)?;
@@ -156,10 +155,8 @@ impl<'a> Items<'a> {
     /// `Y`, `n` or `N`.
     pub fn end(&self) -> Result<(), Refusal>
         requires { self.now.item_number ≤ ITEMS_MAX }
-        ensures passed { OnOk result
-            (surplus self.now.item_number (items self.now.rest.now) ≡ None) }
-        ensures refused { IfErr result
-            (λ refusal. surplus self.now.item_number (items self.now.rest.now) ≡ Some refusal) }
+        ensures passed { OnOk result (HasNothing self.now) }
+        ensures refused { IfErr result (HasSurplus self.now) }
     {
         let Some((answer, rest)) = next_item(self.rest) else {
             return Ok(());

@@ -5,6 +5,7 @@
 
 pub mod bits;
 pub mod cursor;
+pub mod demands;
 mod items;
 pub mod limits;
 pub mod lines;
@@ -16,7 +17,8 @@ pub mod refusals;
 mod sums;
 
 pub use cursor::Cursor;
-pub use items::{is_answer, is_separator, next_item};
+pub use demands::{Due, Parameter, Unmet, first_unmet};
+pub use items::{is_answer, is_separator, next_item, read_number};
 pub use limits::{
     COST_MAX, EDGE, FAR_BELOW, FEW_SIGNS, FILE_MAX, FOLDS_MAX, FOLDS_MIN, ITEMS_MAX, LENGTH_MAX,
     LEVEL_MAX, NUMBERS_END, PATTERN_SIGNS_MAX, PRICE_MAX, SETS_MAX, SIGNS_MAX, Sign, WEIGHT_MAX,

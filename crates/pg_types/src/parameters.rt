@@ -1,9 +1,9 @@
 //! The parameters of a run, and the reader of the file that holds them.
-ghost use Rattle.std.specs.Prelude.{◌≡◌, ◌<◌, ◌≤◌, ◌+◌, ◌-◌, ◌*◌, nat_lt, length, map, drop, slice_get, IfOk, IfErr, OnOk, All};
-ghost use Rattle.pg_types.specs.Inside.reading.ItemSteps.{levels_of, levels_refusal};
+ghost use Rattle.std.specs.Prelude.{◌≡◌, ◌<◌, ◌≤◌, ◌+◌, ◌-◌, nat_lt, length, slice_get, IfOk, IfErr, OnOk, All};
+ghost use Rattle.pg_types.specs.Inside.reading.ItemSteps.{FailsLevels, TakesLevels};
 ghost use Rattle.pg_types.specs.Inside.Limits.{items_end};
-ghost use Rattle.pg_types.specs.Inside.reading.Answers.{Gives, FailsBy};
-ghost use Rattle.pg_types.specs.Parameters.{items as items_of, surplus, parameters};
+ghost use Rattle.pg_types.specs.Inside.reading.Answers.{Gives};
+ghost use Rattle.pg_types.specs.Parameters.{parameters};
 ghost use Rattle.pg_types.specs.Inside.Ranges.{IsLevel};
 
 use crate::items::Items;
@@ -138,13 +138,11 @@ fn read_levels(
 ) -> Result<Vec<LevelParams>, ReadingError>
     requires item_number { items.old.item_number ≡ 3 }
     requires count { count ≤ LEVEL_MAX }
-    ensures value { IfOk result
-        (λ levels. levels.items ≡ levels_of count (items_of items.old.rest.now)) }
+    ensures count { IfOk result (λ levels. length levels.items ≡ count) }
     ensures ranges { IfOk result (λ levels. All IsLevel levels.items) }
     ensures item_number { OnOk result (items.new.item_number ≤ items_end) }
-    ensures passed { OnOk result (levels_refusal count items.old
-        ≡ surplus items.new.item_number (items_of items.new.rest.now)) }
-    ensures refused { IfErr result (λ error. FailsBy error (levels_refusal count items.old)) }
+    ensures taken { IfOk result (λ levels. TakesLevels count items.old items.new levels.items) }
+    ensures failed { IfErr result (FailsLevels count items.old) }
 {
     let mut levels = Vec::new(alloc);
     'levels: for i in 0..count {

@@ -58,10 +58,10 @@ words_of_lines t line weight (text ∷ texts) (w ∷ ws) give =
     ap (on_line (λ (l : LineWord). words_from t (line + 1) l.weight texts)) (give.0 line) ∙ ap (both_parts (Ok (w ∷ []))) (words_of_lines t (line + 1) w.weight texts ws give.1)
 
 -- so does a file of them
-pub file_is_read : (t : Alphabet) (texts : List (List ℕ)) (ws : List Word) → AllByRecursion IsLine texts → LinesGive t 1 texts ws → length (text_of_lines texts) ≤ FILE_MAX
+pub file_is_read : (t : Alphabet) → KeepsRules t → (texts : List (List ℕ)) (ws : List Word) → AllByRecursion IsLine texts → LinesGive t 1 texts ws → length (text_of_lines texts) ≤ FILE_MAX
     → words t (text_of_lines texts) ≡ Ok ws
-file_is_read t texts ws each give short =
-    words_short t (text_of_lines texts) short ∙ ap (words_from t 1 1) (lines_of_file texts each) ∙ words_of_lines t 1 1 texts ws give
+file_is_read t rules texts ws each give short =
+    words_short t rules (text_of_lines texts) short ∙ ap (words_from t 1 1) (lines_of_file texts each) ∙ words_of_lines t 1 1 texts ws give
 
 -- a text of items is a line
 pub items_line : (t : Alphabet) → KeepsRules t → (items : List (Token × List ℕ)) → AllByRecursion (λ (item : Token × List ℕ). IsItem t Dictionary item.0 item.1) items → IsLine (text_of_items items)

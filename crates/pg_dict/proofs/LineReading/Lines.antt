@@ -12,6 +12,7 @@ use Rattle.pg_types.specs.declared.refusals.ReadingError.TheVariants.{Refused, M
 use Rattle.pg_types.specs.Inside.reading.Parts.{both_parts}
 use Rattle.pg_types.specs.Inside.reading.Answers.{Fails}
 use Rattle.pg_translate.specs.Alphabets.{Alphabet}
+use Rattle.pg_translate.specs.Inside.tables.Rules.{KeepsRules}
 use Rattle.pg_types.specs.declared.limits.TheConstants.{FILE_MAX}
 use Rattle.pg_types.specs.Lines.{lines}
 use Rattle.pg_dict.specs.declared.store.Store.{Store}
@@ -22,7 +23,7 @@ use Rattle.pg_dict.specs.Word.{Word}
 use Rattle.pg_dict.specs.Inside.SoundWords.{is_weight, IsWord}
 use Rattle.pg_dict.specs.DictionaryWords.{words}
 use Rattle.pg_dict.specs.Inside.LineWords.{LineWord, line_reading, on_line, words_from}
-use Rattle.pg_dict.proofs.LineReading.ManyWords.{lines_as}
+use Rattle.pg_dict.proofs.LineReading.ManyWords.{of_lines_words}
 use Rattle.pg_dict.specs.Inside.Lines.Entries.{Entries, with_word}
 
 -- words behind words behind words
@@ -74,8 +75,8 @@ with_nothing (Ok words) = refl
 with_nothing (Err r) = refl
 
 -- a file that is not too long
-pub words_short : (t : Alphabet) (bytes : List ℕ) → length bytes ≤ FILE_MAX → words t bytes ≡ words_from t 1 1 (lines bytes)
-words_short t bytes short = rw (le-ltb FILE_MAX (length bytes) short) (sym (lines_as t 1 1 (lines bytes)))
+pub words_short : (t : Alphabet) → KeepsRules t → (bytes : List ℕ) → length bytes ≤ FILE_MAX → words t bytes ≡ words_from t 1 1 (lines bytes)
+words_short t rules bytes short = rw (le-ltb FILE_MAX (length bytes) short) (sym (of_lines_words t rules (lines bytes)))
 
 -- a store without a word
 pub starts : (s : Store) (rest : Result (List Word) Refusal) → s.words.items ≡ [] → both_parts (Ok (stored_words s)) rest ≡ rest

@@ -1,22 +1,23 @@
 -- A line read item by item gives what its gaps say.
-use Rattle.std.proofs.Common.{◌≡◌, ℕ, ◌+◌, ◌-◌, Bool, true, false, List, [], ◌∷◌, ◌++◌, length, map, take, slice_index_or, slice_range, Some, refl, sym, ◌∙◌, ap, arith, suc}
+use Rattle.std.proofs.Common.{◌≡◌, ℕ, ◌+◌, ◌-◌, Bool, List, [], ◌∷◌, ◌++◌, length, map, take, slice_index_or, slice_range, Some, refl, sym, ◌∙◌, ap, arith, suc}
 use Rattle.std.specs.List.{filter_map, onto_first}
+use Rattle.std.proofs.lemmas.List.{map-append}
 use Rattle.pg_types.specs.declared.limits.TheConstants.{EDGE}
 use Rattle.pg_types.specs.declared.marks.Mark.{Mark}
 use Rattle.pg_types.specs.declared.marks.Mark.TheVariants.{Nothing}
 use Rattle.pg_types.specs.ValuesOrRefusals.{unless}
 use Rattle.pg_translate.specs.declared.items.Place.TheVariants.{Dictionary}
 use Rattle.pg_translate.specs.Alphabets.{Alphabet}
-use Rattle.pg_translate.specs.Cuts.{cut, cut_from, tokens_of}
-use Rattle.pg_translate.specs.LineRefusals.{line_refusal}
+use Rattle.pg_translate.specs.Inside.items.Cuts.{cut, cut_from, tokens_of}
+use Rattle.pg_translate.specs.Inside.items.Refusing.{cut_refusal}
 use Rattle.pg_translate.specs.Tokens.{Token, Letter, Digit, Weight, Marked, Edge}
-use Rattle.pg_translate.specs.Gaps.{signs_of, gaps, last_else, last_number, last_mark}
-use Rattle.pg_translate.specs.Inside.items.GapItems.{inner_gaps, number_of, mark_of}
+use Rattle.pg_translate.specs.Gaps.{signs_of, gaps, last_number, last_mark}
+use Rattle.pg_translate.specs.Inside.items.GapItems.{last_else, inner_gaps, number_of, mark_of}
 use Rattle.pg_translate.proofs.Gaps.{gaps_some}
 use Rattle.pg_dict.specs.Inside.Lines.PositionedSigns.{PositionedSign, positioned_sign}
 use Rattle.pg_dict.specs.Word.{Word}
 use Rattle.pg_dict.specs.Inside.SoundWords.{word_of_signs}
-use Rattle.pg_dict.specs.DictionaryWords.{at_positions, word_of_items}
+use Rattle.pg_dict.specs.DictionaryWords.{position_gaps, word_of_items}
 use Rattle.pg_dict.specs.Inside.MarkedPositions.{sets_hyphen, keeps_care}
 use Rattle.pg_dict.specs.Inside.LineWords.{LineWord, word_if, line_word, line_reading}
 use Rattle.pg_dict.specs.Inside.Lines.LineStarts.{rest_reading}
@@ -96,7 +97,7 @@ inner_front s items =
 -- a list of a word, by its gaps
 positions_shown : {X : Type 0} (h : PositionedSign → X) (f : Mark → ℕ → X) → ((mark : Mark) (number sign : ℕ) → h (positioned_sign mark number sign) ≡ f mark number)
     → (weight s : ℕ) (items : List Token) → map h (word_signs weight s items)
-    ≡ at_positions (f Nothing weight) (λ (position : List Token). f (last_mark position) (last_number weight position)) (Letter s ∷ items)
+    ≡ map (λ (position : List Token). f (last_mark position) (last_number weight position)) (position_gaps (Letter s ∷ items))
 positions_shown {X} h f same weight s items =
     let plain : X = f Nothing weight in
     let behind : map h (signs_behind weight Nothing weight items) ≡ map (λ (position : List Token). f (last_mark position) (last_number weight position)) (inner_gaps (Letter s ∷ items))
@@ -105,7 +106,8 @@ positions_shown {X} h f same weight s items =
     ∙ ap (λ (gs : List (List Token)). map (λ (position : List Token). f (last_mark position) (last_number weight position)) gs ++ plain ∷ []) (inner_front s items) in
     ap (λ (x : X). x ∷ h (positioned_sign Nothing weight s) ∷ map h (signs_behind weight Nothing weight items)) (same Nothing weight EDGE)
     ∙ ap (λ (x : X). plain ∷ x ∷ map h (signs_behind weight Nothing weight items)) (same Nothing weight s)
-    ∙ ap (λ (xs : List X). plain ∷ plain ∷ xs) behind
+    ∙ ap (λ (xs : List X). plain ∷ plain ∷ xs)
+    (behind ∙ sym (map-append (λ (position : List Token). f (last_mark position) (last_number weight position)) (inner_gaps (Letter s ∷ items)) ([] ∷ [])))
 
 -- the signs alone
 spots_signs : (weight : ℕ) (mark : Mark) (number : ℕ) (items : List Token) → map (λ (s : PositionedSign). s.sign) (signs_behind weight mark number items) ≡ signs_of items ++ EDGE ∷ []
@@ -130,13 +132,13 @@ word_shown weight s items =
 abbrev given : ℕ → List ℕ → List (List Token) → LineWord
 given before signs gs =
     let weight = last_number before (slice_index_or gs 0 []) in
-    let inner = slice_range gs 1 (length gs - 1) in
+    let all = [] ∷ [] ∷ (slice_range gs 1 (length gs - 1) ++ [] ∷ []) in
     record {
       word = word_if signs (record {
         signs = EDGE ∷ (signs ++ EDGE ∷ []);
-        hyphens = false ∷ false ∷ (map (λ position. sets_hyphen (last_mark position)) inner ++ false ∷ []);
-        weights = weight ∷ weight ∷ (map (last_number weight) inner ++ weight ∷ []);
-        cares = true ∷ true ∷ (map (λ position. keeps_care (last_mark position)) inner ++ true ∷ []);
+        hyphens = map (λ position. sets_hyphen (last_mark position)) all;
+        weights = map (last_number weight) all;
+        cares = map (λ position. keeps_care (last_mark position)) all;
         weight = weight;
       });
       weight = weight;
@@ -168,5 +170,5 @@ running_is before (Marked m ∷ items) = running_is before items ∙ given_mark 
 pub line_runs : (t : Alphabet) (line size weight : ℕ) (text : List ℕ) → length text ≡ size → rest_reading t line size weight text ≡ line_reading t line weight text
 line_runs t line size weight text is =
     let first : size - length text + 1 ≡ 1 = omega arith in
-    ap (λ (column : ℕ). let c = cut_from t Dictionary (length text) column text in unless (line_refusal Dictionary line c) (running_word weight (tokens_of c))) first
-    ∙ ap (unless (line_refusal Dictionary line (cut t Dictionary text))) (running_is weight (tokens_of (cut t Dictionary text)))
+    ap (λ (column : ℕ). let c = cut_from t Dictionary (length text) column text in unless (cut_refusal Dictionary line c) (running_word weight (tokens_of c))) first
+    ∙ ap (unless (cut_refusal Dictionary line (cut t Dictionary text))) (running_is weight (tokens_of (cut t Dictionary text)))

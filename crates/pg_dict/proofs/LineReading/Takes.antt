@@ -7,13 +7,12 @@ use Rattle.pg_types.specs.declared.marks.Mark.TheVariants.{Nothing}
 use Rattle.pg_types.specs.ValuesOrRefusals.{unless}
 use Rattle.pg_translate.specs.Alphabets.{Alphabet}
 use Rattle.pg_translate.specs.Tokens.{Token, Letter}
-use Rattle.pg_translate.specs.Cuts.{Cut, with_item, tokens_of}
+use Rattle.pg_translate.specs.Inside.items.Cuts.{Cut, with_item, tokens_of}
 use Rattle.pg_translate.specs.Inside.items.Answers.{HasItem}
 use Rattle.pg_translate.specs.declared.items.Place.TheVariants.{Dictionary}
 use Rattle.pg_types.specs.declared.refusals.Refusal.{Refusal}
 use Rattle.pg_dict.specs.Inside.Lines.PositionedSigns.{PositionedSign, positioned_sign, Columns, with_signs}
-use Rattle.pg_translate.specs.LineRefusals.{line_refusal}
-use Rattle.pg_translate.specs.Inside.items.Refusing.{refusal_with_room}
+use Rattle.pg_translate.specs.Inside.items.Refusing.{cut_refusal, refusal_with_room}
 use Rattle.pg_translate.proofs.LineSteps.{along}
 use Rattle.pg_dict.specs.Inside.LineWords.{LineWord}
 use Rattle.pg_dict.specs.Inside.Lines.RunningWords.{running_word, signs_behind}
@@ -52,19 +51,19 @@ shorter_behind t rest item after takes = omega (arith, ap (λ (xs : List ℕ). l
 -- an item before the first letter: the line still gives the whole
 pub seeks_item : (t : Alphabet) (line size weight next : ℕ) (item : Token) (rest after : List ℕ) (whole : Result LineWord Refusal) → rest_reading t line size weight rest
     ≡ whole → length rest ≤ size → HasItem t Dictionary rest item after
-    → ((column : ℕ) (c : Cut) → unless (line_refusal Dictionary line c) (running_word next (tokens_of c))
-    ≡ unless (line_refusal Dictionary line (with_item column item c)) (running_word weight (tokens_of (with_item column item c))))
+    → ((column : ℕ) (c : Cut) → unless (cut_refusal Dictionary line c) (running_word next (tokens_of c))
+    ≡ unless (cut_refusal Dictionary line (with_item column item c)) (running_word weight (tokens_of (with_item column item c))))
     → (rest_reading t line size next after ≡ whole) × (length after ≤ size)
 seeks_item t line size weight next item rest after whole is within takes same =
-    let p = along (λ (c : Cut). unless (line_refusal Dictionary line c) (running_word weight (tokens_of c)))
-    (λ (c : Cut). unless (line_refusal Dictionary line c) (running_word next (tokens_of c))) t Dictionary size item rest after takes within same in
+    let p = along (λ (c : Cut). unless (cut_refusal Dictionary line c) (running_word weight (tokens_of c)))
+    (λ (c : Cut). unless (cut_refusal Dictionary line c) (running_word next (tokens_of c))) t Dictionary size item rest after takes within same in
     (p.0 ∙ is, omega arith)
 
 -- the first letter
 pub seeks_letter : (t : Alphabet) (line size weight sign : ℕ) (rest after : List ℕ) (whole : Result LineWord Refusal) → rest_reading t line size weight rest
     ≡ whole → length rest ≤ size → HasItem t Dictionary rest (Letter sign) after → (word_reading t line size weight sign after ≡ whole) × (length after < size)
 seeks_letter t line size weight sign rest after whole is within takes =
-    let p = along (λ (c : Cut). unless (line_refusal Dictionary line c) (running_word weight (tokens_of c)))
+    let p = along (λ (c : Cut). unless (cut_refusal Dictionary line c) (running_word weight (tokens_of c)))
     (λ (c : Cut). unless (refusal_with_room Dictionary line (WORD_LETTERS_MAX - 1) c) (running_word weight (Letter sign ∷ tokens_of c))) t Dictionary size
     (Letter sign) rest after takes within (λ _ _. refl) in
     (p.0 ∙ is, omega arith)

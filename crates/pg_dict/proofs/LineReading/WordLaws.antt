@@ -15,8 +15,7 @@ use Rattle.pg_dict.specs.Inside.MarkedPositions.{sets_hyphen, keeps_care}
 use Rattle.pg_dict.specs.Inside.LineWords.{line_word}
 use Rattle.pg_dict.specs.Inside.Lines.RunningWords.{signs_behind, running_word}
 use Rattle.pg_dict.proofs.LineReading.Running.{same_word, running_is}
-use Rattle.pg_dict.specs.Inside.WrittenWords.{MarkedLetter, number_token, mark_tokens, weight_tokens, letters_tokens, written_signs}
-use Rattle.pg_dict.specs.Inside.WrittenWords.{written_letters, between_letters, AreMarksOf, letters_with, word_tokens}
+use Rattle.pg_dict.specs.Inside.WrittenWords.{MarkedLetter, number_token, mark_tokens, weight_tokens, letters_tokens, written_signs, written_letters, between_letters, AreMarksOf, letters_with, word_tokens}
 
 -- a number sets the weight
 number_read : (weight : ℕ) (mark : Mark) (before n : ℕ) (more : List Token) → signs_behind weight mark before (number_token n ∷ more) ≡ signs_behind weight mark n more

@@ -7,7 +7,7 @@ use Rattle.pg_types.specs.ValuesOrRefusals.{unless}
 use Rattle.pg_translate.specs.Alphabets.{Alphabet}
 use Rattle.pg_translate.specs.Inside.tables.Rules.{KeepsRules}
 use Rattle.pg_translate.specs.Tokens.{Token, Letter}
-use Rattle.pg_translate.specs.Cuts.{tokens_of}
+use Rattle.pg_translate.specs.Inside.items.Cuts.{tokens_of}
 use Rattle.pg_translate.specs.Inside.items.Rests.{cut_rest}
 use Rattle.pg_dict.specs.declared.store.Store.{Store}
 use Rattle.pg_dict.specs.Inside.Lines.PositionedSigns.{PositionedSign, positioned_sign, Columns, with_signs}

@@ -8,7 +8,7 @@ use Rattle.pg_types.specs.ValuesOrRefusals.{unless}
 use Rattle.pg_translate.specs.declared.items.Place.TheVariants.{Patterns}
 use Rattle.pg_translate.specs.Alphabets.{Alphabet}
 use Rattle.pg_translate.specs.Tokens.{Token, Letter, Digit, Weight, Marked, Edge}
-use Rattle.pg_translate.specs.Cuts.{Cut, tokens_of}
+use Rattle.pg_translate.specs.Inside.items.Cuts.{Cut, tokens_of}
 use Rattle.pg_translate.specs.Inside.items.Rests.{cut_rest}
 use Rattle.pg_translate.specs.Inside.items.Refusing.{of_line, refusal_with_room}
 use Rattle.pg_patterns.specs.Inside.EntryLines.{digit_at_dot, entries_at}

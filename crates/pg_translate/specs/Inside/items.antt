@@ -6,3 +6,5 @@ pub mod Rests
 pub mod Digits
 pub mod MarkBytes
 pub mod GapItems
+pub mod Kinds
+pub mod Cuts

@@ -2,8 +2,8 @@
 ghost use Rattle.std.specs.Prelude.{◌≡◌, ℕ, ◌+◌, ◌≤◌, ◌⊎◌, ◌++◌, List, Some, None, true, false, length};
 ghost use Rattle.std.specs.List.{list_any};
 ghost use Rattle.pg_translate.specs.Alphabets.{letters_of, spelling_of};
-ghost use Rattle.pg_translate.specs.Cuts.{cut};
-ghost use Rattle.pg_translate.specs.Inside.items.Items.{IsItem, IsCut, IsPrefix, IsLongest};
+ghost use Rattle.pg_translate.specs.Cuts.{items_of};
+ghost use Rattle.pg_translate.specs.Inside.items.Items.{IsItem, IsCut, IsPrefix, AreLongest};
 ghost use Rattle.pg_translate.specs.Inside.tables.Rules.{KeepsRules};
 ghost use Rattle.pg_translate.specs.Spellings.{is_space};
 ghost use Rattle.pg_translate.specs.Tokens.{Token, item_at, is_ended};
@@ -24,7 +24,7 @@ pub fn keeps_rules(table: &Table)
 /// stands.
 pub fn items_are_read(table: &Table, place: Place)
     ensures read { (item : Token) (text more : List ℕ) → IsItem table.now place item text
-        → item_at table.now place (text ++ more) ≡ Some (item, length text) }
+        → item_at table.now place (text ++ more) ≡ Some (item, text) }
     ensures unbroken { (item : Token) (text : List ℕ)
         → IsItem table.now place item text → list_any is_space text
         ≡ false }
@@ -43,10 +43,10 @@ pub fn cuts_agree(table: &Table, place: Place)
     keeps_rules(table);
 }
 
-/// The cut of a line, which is taken item by item, is its longest cut into items: its items, the
-/// column of each, and what is left of the line.
-pub fn cut_is_longest(table: &Table, place: Place)
-    ensures { (line : List ℕ) → IsLongest table.now place 1 line (cut table.now place line) }
+/// The items of a line, which are taken one after the other, are its longest cut into items, each
+/// with its column.
+pub fn items_are_longest(table: &Table, place: Place)
+    ensures { (line : List ℕ) → AreLongest table.now place line (items_of table.now place line) }
 {
     keeps_rules(table);
 }

@@ -4,8 +4,8 @@ use Rattle.std.specs.Prelude.{◌≡◌, ℕ, ◌+◌, ◌<◌, ◌≤◌, Bool,
 use Rattle.std.specs.Ordering.{nat_cmp}
 use Rattle.std.specs.Cmp.Lexicographic.{slice_cmp}
 use Rattle.std.specs.FinMap.{put}
-use Rattle.pg_types.specs.Placement.{Families, family_at, is_used, Family, cell_in}
-use Rattle.pg_types.specs.Inside.PlacementSteps.{without_family}
+use Rattle.pg_types.specs.Placement.{Family, Families, family_at}
+use Rattle.pg_types.specs.Inside.PlacementSteps.{cell_in, is_used, without_family}
 
 -- b is the least number from low on that meets the test
 pub record IsLeast (test : ℕ → Bool) (low b : ℕ) : Type 0 where

@@ -1,4 +1,3 @@
--- The windows that a pass counts, and strings with their numbers.
+-- The windows that a pass counts, and windows with their numbers.
 pub mod Counts
-pub mod NumberedStrings
 pub mod NumberedWindows

@@ -5,10 +5,9 @@ use Rattle.pg_types.specs.declared.refusals.Refusal.{Refusal}
 use Rattle.pg_types.specs.ValuesOrRefusals.{unless}
 use Rattle.pg_translate.specs.Alphabets.{Alphabet, letters_of}
 use Rattle.pg_translate.specs.Tokens.{Letter}
-use Rattle.pg_translate.specs.Cuts.{tokens_of}
+use Rattle.pg_translate.specs.Inside.items.Cuts.{tokens_of}
 use Rattle.pg_translate.specs.Inside.items.Rests.{cut_rest}
-use Rattle.pg_translate.specs.LineRefusals.{line_refusal}
-use Rattle.pg_translate.specs.Inside.items.Refusing.{refusal_with_room}
+use Rattle.pg_translate.specs.Inside.items.Refusing.{cut_refusal, refusal_with_room}
 use Rattle.pg_translate.specs.declared.items.Place.TheVariants.{Dictionary}
 use Rattle.pg_dict.specs.declared.entries.line.Line.{Line}
 use Rattle.pg_dict.specs.declared.entries.line_start.LineStart.{LineStart}
@@ -19,7 +18,7 @@ use Rattle.pg_dict.specs.Inside.Lines.RunningWords.{running_word}
 -- what a line gives, from its rest before the first letter and the word weight so far
 abbrev pub rest_reading : Alphabet → ℕ → ℕ → ℕ → List ℕ → Result LineWord Refusal
 rest_reading t line size weight rest = let c = cut_rest t Dictionary size rest in
-    unless (line_refusal Dictionary line c) (running_word weight (tokens_of c))
+    unless (cut_refusal Dictionary line c) (running_word weight (tokens_of c))
 
 -- what a line gives, from its first letter and the rest behind it
 abbrev pub word_reading : Alphabet → ℕ → ℕ → ℕ → ℕ → List ℕ → Result LineWord Refusal

@@ -6,7 +6,7 @@ use Rattle.pg_types.specs.declared.marks.Mark.{Mark}
 use Rattle.pg_types.specs.declared.refusals.Refusal.{Refusal}
 use Rattle.pg_types.specs.ValuesOrRefusals.{unless}
 use Rattle.pg_translate.specs.Alphabets.{Alphabet}
-use Rattle.pg_translate.specs.Cuts.{tokens_of}
+use Rattle.pg_translate.specs.Inside.items.Cuts.{tokens_of}
 use Rattle.pg_translate.specs.Inside.items.Rests.{cut_rest}
 use Rattle.pg_translate.specs.Inside.items.Refusing.{refusal_with_room}
 use Rattle.pg_translate.specs.declared.items.Place.TheVariants.{Dictionary}

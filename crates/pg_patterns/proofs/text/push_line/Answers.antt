@@ -3,7 +3,8 @@ use Rattle.std.proofs.lemmas.Grind.{common_steps}
 use Rattle.std.proofs.lemmas.List.{drop_all}
 use Rattle.pg_translate.specs.Alphabets.{Alphabet}
 use Rattle.pg_patterns.specs.Values.{Patterns}
-use Rattle.pg_patterns.specs.Texts.{value_digit, line_from}
+use Rattle.pg_patterns.specs.Inside.PatternLines.{value_digit, line_from}
+use Rattle.pg_patterns.proofs.LineForms.{line_as}
 use Rattle.pg_patterns.proofs.text.push_line.Goals as goal
 
 -- the digit of the last dot and the line feed
@@ -17,6 +18,12 @@ line_ends t P q dot old mid new all past within a c so =
     ∙ ap (λ d. old ++ (value_digit P (q, d) ++ 10 ∷ [])) same
     ∙ ap (λ ys. old ++ line_from t P q dot ys) (sym (drop_all dot q past))
     ∙ so
+
+pub signs-init : goal.signs-init
+signs-init c = record {
+  text = ap (λ line. c.args.text.now.items ++ line) (sym (line_as c.args.table.now c.args.entries.now c.args.signs.now 0 c.args.signs.now));
+  point = c.requires.point;
+}
 
 pub signs-preserved : goal.signs-preserved
 signs-preserved c = grind (arith, common_steps)

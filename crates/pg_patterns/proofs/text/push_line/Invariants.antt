@@ -1,7 +1,7 @@
 use Rattle.std.proofs.Common.{◌≡◌, ◌++◌, drop}
 use Rattle.pg_patterns.specs.Inside.Search.{HasRank}
-use Rattle.pg_patterns.specs.Texts.{line_from}
-use Rattle.pg_patterns.specs.Inside.PatternLines.{pattern_line}
+use Rattle.pg_patterns.specs.Texts.{pattern_line}
+use Rattle.pg_patterns.specs.Inside.PatternLines.{line_from}
 use Rattle.pg_patterns.proofs.text.push_line.Given as goal
 
 abbrev pub invariant-signs : goal.invariant-signs

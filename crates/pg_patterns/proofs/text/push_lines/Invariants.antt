@@ -1,7 +1,6 @@
 use Rattle.std.proofs.Common.{◌≡◌, ℕ, ◌++◌, ◌-◌, ◌<◌, length, drop, List, get_or, flat_map}
 use Rattle.pg_patterns.specs.Inside.Search.{HasRank}
-use Rattle.pg_patterns.specs.Texts.{strings_of, pattern_text}
-use Rattle.pg_patterns.specs.Inside.PatternLines.{pattern_line}
+use Rattle.pg_patterns.specs.Texts.{strings_of, pattern_line, pattern_text}
 use Rattle.pg_patterns.proofs.text.push_lines.Given as goal
 
 abbrev pub invariant-lines : goal.invariant-lines

@@ -4,8 +4,8 @@ use Rattle.std.specs.Result.{OnOk}
 use Rattle.pg_types.specs.Inside.reading.Answers.{Gives}
 use Rattle.pg_translate.specs.Inside.spellings.FirstSpellings.{letters_in}
 use Rattle.pg_translate.specs.Inside.spellings.Fronts.{pairs}
-use Rattle.pg_translate.specs.Tables.{ListedSpelling, spelling_with_sign}
-use Rattle.pg_translate.specs.Inside.tables.Checks.{spellings_outcome}
+use Rattle.pg_translate.specs.Tables.{ListedSpelling}
+use Rattle.pg_translate.specs.Inside.tables.Checks.{spelling_with_sign, spellings_outcome}
 use Rattle.pg_translate.proofs.LetterLines.{no_spelling, spellings_of_rest}
 use Rattle.pg_translate.proofs.reading.add_line.Goals as goal
 

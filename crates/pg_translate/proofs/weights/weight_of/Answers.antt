@@ -2,7 +2,7 @@ use Rattle.std.proofs.Common.{◌≡◌, ℕ, zero, suc, ◌+◌, ◌-◌, ◌*�
 use Rattle.std.proofs.lemmas.Bool.{ne_eqb, and_parts, leb-true, ltb-true}
 use Rattle.std.proofs.lemmas.List.{drop_more, drop_all}
 use Rattle.std.specs.Char.{is_ascii_digit}
-use Rattle.pg_translate.specs.Tokens.{weight_at}
+use Rattle.pg_translate.specs.Inside.items.Kinds.{weight_at}
 use Rattle.pg_translate.proofs.WeightDigits.{weight_end, weight_from, weight_behind}
 use Rattle.pg_translate.proofs.weights.weight_of.Goals as goal
 use Rattle.pg_translate.proofs.weights.weight_of.Goals.{else-size-text-via-then-size-text+then-text-size-eq125+else-is_weight, else-size-text-via-then-size-text+else-text-size-eq125, else-size-text-via-else-size-text}

@@ -1,5 +1,5 @@
 use Rattle.std.proofs.Common.{length, ◌-◌, ◌≡◌, ◌<◌, ◌≤◌, drop}
-use Rattle.pg_translate.specs.Tokens.{weight_at}
+use Rattle.pg_translate.specs.Inside.items.Kinds.{weight_at}
 use Rattle.pg_translate.proofs.WeightDigits.{weight_from}
 use Rattle.pg_translate.proofs.weights.weight_of.Given as goal
 

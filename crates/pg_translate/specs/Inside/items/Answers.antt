@@ -6,21 +6,22 @@ use Rattle.pg_translate.specs.declared.items.Item.{Item}
 use Rattle.pg_translate.specs.declared.items.Item.TheVariants as answer
 use Rattle.pg_translate.specs.Alphabets.{Alphabet, letters_of}
 use Rattle.pg_translate.specs.Inside.tables.Rules.{KeepsRules}
-use Rattle.pg_translate.specs.Tokens.{Token, Letter, Digit, Weight, Marked, Edge, item_at, is_ended}
+use Rattle.pg_translate.specs.Tokens.{Token, Letter, Digit, Weight, Marked, Edge, is_ended}
+use Rattle.pg_translate.specs.Inside.items.Kinds.{item_by_kind}
 
 -- an item begins the text under a table's rules, has a text of its own, and the rest follows it
 pub record HasItem (t : Alphabet) (place : Place)
     (text : List ℕ) (token : Token) (after : List ℕ) : Type 0 where
   pub rules : KeepsRules t
   pub size : ℕ
-  pub found : item_at t place text ≡ Some (token, size)
+  pub found : item_by_kind t place text ≡ Some (token, size)
   pub some : 0 < size
   pub within : size ≤ length text
   pub behind : after ≡ drop size text
 
 -- no item begins the text, whose line ends there or does not
 pub record HasNoItem (t : Alphabet) (place : Place) (text : List ℕ) (ended : Bool) : Type 0 where
-  pub none : item_at t place text ≡ None
+  pub none : item_by_kind t place text ≡ None
   pub end : is_ended text ≡ ended
 
 -- the answer is the item that begins the text, with what follows it

@@ -2,7 +2,7 @@
 use Rattle.std.specs.Prelude.{ℕ, List, Option, None, Some}
 use Rattle.std.specs.List.{filter_map}
 use Rattle.pg_translate.specs.Tokens.{Token, Digit}
-use Rattle.pg_translate.specs.Gaps.{last_else}
+use Rattle.pg_translate.specs.Inside.items.GapItems.{last_else}
 
 -- the digit that an item is
 abbrev pub digit_of : Token → Option ℕ

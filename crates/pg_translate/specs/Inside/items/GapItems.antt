@@ -1,5 +1,5 @@
--- The gaps between two signs, and the number and the mark that an item is.
-use Rattle.std.specs.Prelude.{ℕ, ◌-◌, List, length, slice_range, Option, None, Some}
+-- The gaps between two signs, the number and the mark that an item is, and the last of some.
+use Rattle.std.specs.Prelude.{ℕ, ◌-◌, List, fold, length, slice_range, Option, None, Some}
 use Rattle.pg_types.specs.declared.marks.Mark.{Mark}
 use Rattle.pg_translate.specs.Tokens.{Token, Digit, Weight, Marked}
 use Rattle.pg_translate.specs.Gaps.{gaps}
@@ -18,3 +18,7 @@ number_of item = None
 abbrev pub mark_of : Token → Option Mark
 mark_of (Marked mark) = Some mark
 mark_of item = None
+
+-- the last of a list, else what is given
+abbrev pub last_else : {X : Type 0} → X → List X → X
+last_else given xs = fold (λ _ x. x) given xs

@@ -1,7 +1,7 @@
 -- What the items of a line are, and the cuts of a line into items.
 use Rattle.std.specs.Prelude.{◌≡◌, ℕ, ◌+◌, ◌<◌, ◌≤◌, true, List, [], ◌∷◌, ◌++◌, length, map, fold, codes, nat_eq}
 use Rattle.std.specs.List.{list_all, concat, AllByRecursion, starts_with}
-use Rattle.pg_types.specs.Parameters.{with_digit}
+use Rattle.pg_types.specs.Numbers.{with_digit}
 use Rattle.pg_types.specs.declared.marks.Mark.{Mark}
 use Rattle.pg_types.specs.declared.marks.Mark.TheVariants.{Nothing, Error, Missed, Found, DontCare}
 use Rattle.pg_translate.specs.declared.weights.TheConstants.{WEIGHT_DIGITS_MAX}
@@ -12,7 +12,6 @@ use Rattle.pg_translate.specs.Inside.items.MarkBytes.{mark_byte_of}
 use Rattle.pg_translate.specs.Inside.spellings.Members.{IsAmong}
 use Rattle.std.specs.Char.{is_ascii_digit}
 use Rattle.pg_translate.specs.Tokens.{Token, Letter, Digit, Weight, Marked, Edge}
-use Rattle.pg_translate.specs.Cuts.{PlacedItem, Cut}
 
 -- the value of decimal digits
 abbrev pub decimal_value : List ℕ → ℕ
@@ -69,17 +68,18 @@ abbrev pub IsPrefix : List (Token × List ℕ) → List (Token × List ℕ) → 
 IsPrefix items all = (more : List (Token × List ℕ)) × (all ≡ items ++ more)
 
 -- items, each with the column of its first byte, from a column on
-abbrev pub items_at : ℕ → List (Token × List ℕ) → List PlacedItem
-items_at column [] = []
-items_at column (item ∷ items) = record { column = column; token = item.0 } ∷ items_at
-    (column + length item.1) items
+abbrev pub with_columns : ℕ → List (Token × List ℕ) → List (ℕ × (Token × List ℕ))
+with_columns column [] = []
+with_columns column (item ∷ items) = (column, item) ∷ with_columns (column + length item.1) items
 
--- the longest cut of a line from this column on, of which every cut is a prefix
+-- the longest cut of a line, of which every cut is a prefix
 pub record IsLongest (t : Alphabet) (place : Place)
-    (column : ℕ) (line : List ℕ) (c : Cut) : Type 0 where
-  pub items : List (Token × List ℕ)
+    (line : List ℕ) (items : List (Token × List ℕ)) : Type 0 where
   pub cut : IsCut t place line items
-  pub items_are : c.items ≡ items_at column items
-  pub column_is : c.column ≡ column + length (text_of_items items)
-  pub rest_is : line ≡ text_of_items items ++ c.rest
   pub all : (other : List (Token × List ℕ)) → IsCut t place line other → IsPrefix other items
+
+-- the items of a line are its longest cut, each with its column
+pub record AreLongest (t : Alphabet) (place : Place)
+    (line : List ℕ) (items : List (ℕ × (Token × List ℕ))) : Type 0 where
+  pub longest : IsLongest t place line (map (λ i. i.1) items)
+  pub columns : items ≡ with_columns 1 (map (λ i. i.1) items)

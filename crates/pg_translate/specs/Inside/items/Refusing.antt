@@ -8,9 +8,9 @@ use Rattle.pg_translate.specs.declared.items.Place.{Place}
 use Rattle.pg_types.specs.ValuesOrRefusals.{refusal_at, unless}
 use Rattle.pg_translate.specs.Alphabets.{Alphabet}
 use Rattle.pg_translate.specs.Tokens.{Token, is_ended}
-use Rattle.pg_translate.specs.Cuts.{PlacedItem, Cut, cut, tokens_of}
+use Rattle.pg_translate.specs.Inside.items.Cuts.{PlacedItem, Cut, cut, tokens_of}
 use Rattle.pg_translate.specs.Gaps.{sign_of}
-use Rattle.pg_translate.specs.LineRefusals.{limit, bad_kind, line_refusal}
+use Rattle.pg_translate.specs.LineRefusals.{limit, bad_kind}
 
 -- the most signs that a line may have
 abbrev pub signs_max : Place → ℕ
@@ -39,8 +39,12 @@ refusal_with_room place line room c =
     option_or (option_map (refusal_at line (long_kind place)) (slice_get (sign_columns c) room))
     (stop_refusal place line c)
 
+-- the refusal of a line of this cut
+abbrev pub cut_refusal : Place → ℕ → Cut → Option Refusal
+cut_refusal place line c = refusal_with_room place line (signs_max place) c
+
 -- what the items of a line give, or its refusal
 abbrev pub of_line : {X : Type 0} → (List Token → X)
     → Alphabet → Place → ℕ → List ℕ → Result X Refusal
 of_line give t place line text = let c = cut t place text in
-    unless (line_refusal place line c) (give (tokens_of c))
+    unless (cut_refusal place line c) (give (tokens_of c))

@@ -2,7 +2,7 @@
 use Rattle.std.specs.Prelude.{ℕ, ◌+◌, ◌-◌, List, length}
 use Rattle.pg_translate.specs.declared.items.Place.{Place}
 use Rattle.pg_translate.specs.Alphabets.{Alphabet}
-use Rattle.pg_translate.specs.Cuts.{Cut, cut_from}
+use Rattle.pg_translate.specs.Inside.items.Cuts.{Cut, cut_from}
 
 -- the cut of the rest of a line of this size
 abbrev pub cut_rest : Alphabet → Place → ℕ → List ℕ → Cut

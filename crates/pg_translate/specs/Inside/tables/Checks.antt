@@ -1,20 +1,24 @@
 -- The checks of a translate file, as its reader goes through them: pair by pair, byte by byte and
 -- line by line.
-use Rattle.std.specs.Prelude.{ℕ, ◌+◌, ◌-◌, ◌*◌, ◌==◌, Bool, not, ◌&&◌, ◌||◌, if◌then◌else◌, List, [], ◌∷◌, ◌++◌, Result, map}
+use Rattle.std.specs.Prelude.{ℕ, ◌+◌, ◌-◌, ◌*◌, ◌==◌, Bool, not, ◌&&◌, ◌||◌, if◌then◌else◌, List, [], ◌∷◌, ◌++◌, length, slice_index_or, codes, Result, map}
 use Rattle.std.specs.Char.{is_ascii_digit}
 use Rattle.pg_types.specs.declared.refusals.Kind.TheVariants.{BadMinima, BadMark}
 use Rattle.pg_types.specs.declared.refusals.Refusal.{Refusal}
 use Rattle.pg_types.specs.Lines.{pieces_at}
 use Rattle.pg_types.specs.Inside.reading.Parts.{first_refusal}
 use Rattle.pg_translate.specs.declared.head.TheConstants.{DEFAULT_LEFT, DEFAULT_RIGHT}
-use Rattle.std.specs.List.{list_any}
+use Rattle.std.specs.List.{list_any, enumerate_from}
 use Rattle.pg_translate.specs.Spellings.{is_space}
 use Rattle.pg_translate.specs.Alphabets.{Alphabet}
-use Rattle.pg_translate.specs.Tables.{check, in_column, marks_of, ListedSpelling, spellings_at, spelling_with_sign, spelling_check}
+use Rattle.pg_translate.specs.Tables.{check, ListedSpelling, spelling_check}
 
 -- whether all checks pass, or the refusal of the first that fails
 abbrev pub first_failure : List Refusal → Result (Unit {0}) Refusal
 first_failure refusals = first_refusal refusals tt
+
+-- the byte in a column of the head; a column past its end is blank
+abbrev pub in_column : List ℕ → ℕ → ℕ
+in_column head column = slice_index_or head (column - 1) 32
 
 -- the pair of bytes that begins at a column
 abbrev pub pair_at : List ℕ → ℕ → ℕ × ℕ
@@ -48,6 +52,11 @@ left_minimum head = pair_minimum (pair_at head 1) DEFAULT_LEFT
 -- the right minimum of a head
 abbrev pub right_minimum : List ℕ → ℕ
 right_minimum head = pair_minimum (pair_at head 3) DEFAULT_RIGHT
+
+-- the mark bytes of a head
+abbrev pub marks_of : List ℕ → List ℕ
+marks_of head = map (λ m. let b = slice_index_or head m.0 32 in if b == 32 then m.1 else b)
+    (enumerate_from 4 (codes ".-*?"))
 
 -- the mark byte in a column; a blank means a default
 abbrev pub mark_in : List ℕ → ℕ → ℕ → ℕ
@@ -106,6 +115,21 @@ delimited_pieces (delimiter ∷ text) = pieces_of delimiter text
 -- the spellings of a letter line; a line without any is skipped
 abbrev pub trimmed_pieces : List ℕ → List (List ℕ)
 trimmed_pieces line = delimited_pieces (without_blanks line)
+
+-- a spelling with its sign
+abbrev pub spelling_with_sign : ListedSpelling → ℕ × List ℕ
+spelling_with_sign s = s.spelling
+
+-- the spellings of a letter with this number in a line, from a column on
+abbrev pub spellings_at : ℕ → ℕ → ℕ → List (List ℕ) → List ListedSpelling
+spellings_at line column letter [] = []
+spellings_at line column letter (piece ∷ pieces) =
+    record { line = line; column = column; spelling = (letter + 1, piece) } ∷ spellings_at line
+    (column + (length piece + 1)) letter pieces
+
+-- a letter of the default table, counted from 0: a small letter of ASCII and its capital
+abbrev pub default_letter : ℕ → List (ℕ × List ℕ)
+default_letter n = (n + 2, (97 + n) ∷ []) ∷ (n + 2, (65 + n) ∷ []) ∷ []
 
 -- the spellings of a letter in a line of this number, from what follows the line's first delimiter
 abbrev pub spellings_behind : ℕ → ℕ → ℕ → List ℕ → List ListedSpelling

@@ -2,8 +2,7 @@
 use Rattle.std.specs.Prelude.{◌≡◌, ℕ, ◌<◌, ◌≤◌, List, [], ◌∷◌}
 use Rattle.pg_translate.specs.declared.head.TheConstants.{MINIMUM_MAX}
 use Rattle.pg_translate.specs.declared.head.Head.{Head}
-use Rattle.pg_translate.specs.Tables.{marks_of}
-use Rattle.pg_translate.specs.Inside.tables.Checks.{minima_checks, mark_checks, left_minimum, right_minimum}
+use Rattle.pg_translate.specs.Inside.tables.Checks.{marks_of, minima_checks, mark_checks, left_minimum, right_minimum}
 
 -- the mark bytes of a head
 abbrev pub head_marks : Head → List ℕ

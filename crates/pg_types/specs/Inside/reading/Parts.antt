@@ -4,7 +4,7 @@ use Rattle.std.specs.Prelude.{ℕ, if◌then◌else◌, List, [], ◌∷◌, ◌
 use Rattle.std.specs.List.{list_all}
 use Rattle.std.specs.Char.{is_ascii_digit}
 use Rattle.pg_types.specs.declared.refusals.Refusal.{Refusal}
-use Rattle.pg_types.specs.Parameters.{with_digit}
+use Rattle.pg_types.specs.Numbers.{with_digit}
 
 -- two parts of a list, one behind the other, or the first refusal
 abbrev pub both_parts : {X : Type 0} → Result (List X) Refusal

@@ -37,7 +37,7 @@ pub returns-in_err-weight-clause-words : goal.returns-in_err-weight-clause-words
 returns-in_err-weight-clause-words c =
     let p = err_from_is_err_and c.from_residual.result c.from_residual.ensures.1 in
     let F : Result (List Word) Refusal → Type 0 = λ reading. Fails c.in_err-weight.field-0.0 reading in
-    rw (p.1, p.2) (subst F (sym (words_short c.args.table.now c.args.bytes.now (omega arith)))
+    rw (p.1, p.2) (subst F (sym (words_short c.args.table.now c.keeps_rules.ensures c.args.bytes.now (omega arith)))
     (next_refused _ c.args.table.now c.lines.number c.lines.weight c.in-Some.text.now (lines c.in-Some.after.now) (lines c.lines.rest.now)
     (stored_words c.lines.store) _ c.in-Some.ensures.lines c.lines.invariant.whole c.in_err-weight.ensures.line))
 
@@ -64,7 +64,7 @@ returns-clause-signs c =
 
 pub returns-clause-words : goal.returns-clause-words
 returns-clause-words c =
-    words_short c.args.table.now c.args.bytes.now (omega arith)
+    words_short c.args.table.now c.keeps_rules.ensures c.args.bytes.now (omega arith)
     ∙ sym c.lines.invariant.whole
     ∙ all_read c.args.table.now c.lines.number c.lines.weight (lines c.lines.rest.now) (stored_words c.lines.store) (ap lines c.in_default.ensures.lines)
     ∙ ap Ok (sym c.in_ok-dictionary.ensures)

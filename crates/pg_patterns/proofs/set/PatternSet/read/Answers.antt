@@ -14,8 +14,8 @@ returns-clause-known c =
 pub returns-in_err-entries-clause-value : goal.returns-in_err-entries-clause-value
 returns-in_err-entries-clause-value c =
     let p = err_from_is_err_and c.from_residual.result c.from_residual.ensures.1 in
-    rw (p.1, p.2) (start_fails c.in_err-entries.field-0.0 c.args.table.now c.args.bytes.now (omega (arith, c.if-bytes-gt-FILE_MAX.false)) c.in_err-entries.ensures.value)
+    rw (p.1, p.2) (start_fails c.in_err-entries.field-0.0 c.args.table.now c.keeps_rules.ensures c.args.bytes.now (omega (arith, c.if-bytes-gt-FILE_MAX.false)) c.in_err-entries.ensures.value)
 
 pub returns-clause-value : goal.returns-clause-value
 returns-clause-value c =
-    start_gives c.args.table.now c.args.bytes.now c.in_ok-entries.entries.items _ (omega (arith, c.if-bytes-gt-FILE_MAX.false)) c.in_ok-entries.ensures.value c.from_entries.ensures.value
+    start_gives c.args.table.now c.keeps_rules.ensures c.args.bytes.now c.in_ok-entries.entries.items _ (omega (arith, c.if-bytes-gt-FILE_MAX.false)) c.in_ok-entries.ensures.value c.from_entries.ensures.value

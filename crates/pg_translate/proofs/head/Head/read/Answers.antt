@@ -1,8 +1,7 @@
 use Rattle.std.proofs.Common.{◌≡◌, ◌++◌, ◌∷◌, [], List, ℕ, Err, sym, subst}
 use Rattle.std.proofs.lemmas.Result.{err_from_is_err_and}
 use Rattle.pg_types.specs.declared.refusals.Refusal.{Refusal}
-use Rattle.pg_translate.specs.Tables.{marks_of}
-use Rattle.pg_translate.specs.Inside.tables.Checks.{first_failure, minima_checks, mark_checks}
+use Rattle.pg_translate.specs.Inside.tables.Checks.{marks_of, first_failure, minima_checks, mark_checks}
 use Rattle.pg_translate.proofs.head.Head.read.Goals as goal
 
 -- checks of which one fails first fail so before others

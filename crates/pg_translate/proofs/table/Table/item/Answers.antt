@@ -1,6 +1,6 @@
 use Rattle.std.proofs.Common.{◌≡◌, ◌==◌, length, get_or, false, None, refl, sym, ◌∙◌, arith}
 use Rattle.std.proofs.lemmas.Bool.{true≢false, and_parts, leb-true}
-use Rattle.pg_translate.specs.Tokens.{digit_at}
+use Rattle.pg_translate.specs.Inside.items.Kinds.{digit_at}
 use Rattle.pg_translate.proofs.Takes.{takes, takes_one, found_digit, found_edge, found_letter, found_mark, found_weight, missed_digit, none_in_dictionary, none_in_patterns, ends_there, goes_on}
 use Rattle.pg_translate.proofs.table.Table.item.Goals as goal
 use Rattle.pg_translate.proofs.table.Table.item.Goals.{in-Dictionary+in_default-weight_of+in_default-mark, in-Patterns+else-is_edge}

@@ -1,7 +1,8 @@
 use Rattle.std.proofs.Common.{◌≡◌, ℕ, List, Some, ap, subst}
 use Rattle.pg_types.specs.declared.marks.Mark.TheVariants.{Error, Missed, Found, DontCare}
 use Rattle.pg_translate.specs.Alphabets.{Alphabet}
-use Rattle.pg_translate.specs.Tokens.{Marked, mark_at}
+use Rattle.pg_translate.specs.Tokens.{Marked}
+use Rattle.pg_translate.specs.Inside.items.Kinds.{mark_at}
 use Rattle.pg_translate.specs.Inside.tables.Heads.{head_marks}
 use Rattle.pg_translate.proofs.RuleLaws.{keeps}
 use Rattle.pg_translate.proofs.Unbroken.{mark_begun, first_mark, second_mark, third_mark, fourth_mark}

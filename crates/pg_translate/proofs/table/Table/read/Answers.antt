@@ -4,8 +4,7 @@ use Rattle.pg_types.specs.Lines.{lines}
 use Rattle.pg_types.specs.Inside.reading.Parts.{first_refusal}
 use Rattle.pg_types.specs.Inside.reading.Answers.{Fails}
 use Rattle.pg_translate.specs.Inside.spellings.Fronts.{pairs}
-use Rattle.pg_translate.specs.Tables.{spelling_with_sign}
-use Rattle.pg_translate.specs.Inside.tables.Checks.{spelling_checks_from, spellings_from}
+use Rattle.pg_translate.specs.Inside.tables.Checks.{spelling_with_sign, spelling_checks_from, spellings_from}
 use Rattle.pg_translate.proofs.TableReading.{read_bad_head, read_bad_letters, read_whole, read_sound}
 use Rattle.pg_translate.proofs.table.Table.read.Goals as goal
 

@@ -1,25 +1,16 @@
 use Rattle.pg_types.proofs.items.Items.number.Goals as goal
 
-pub returns-in_default-clause-value : goal.returns-in_default-clause-value
-returns-in_default-clause-value c = tt
-
 pub returns-in_default-clause-low : goal.returns-in_default-clause-low
 returns-in_default-clause-low c = tt
 
 pub returns-in_default-clause-high : goal.returns-in_default-clause-high
 returns-in_default-clause-high c = tt
 
-pub returns-in_default-clause-rest : goal.returns-in_default-clause-rest
-returns-in_default-clause-rest c = tt
-
 pub returns-in_default-clause-item_number : goal.returns-in_default-clause-item_number
 returns-in_default-clause-item_number c = tt
 
-pub returns-in_default-clause-passed : goal.returns-in_default-clause-passed
-returns-in_default-clause-passed c = tt
-
-pub returns-in_default-read_number-clause-value : goal.returns-in_default-read_number-clause-value
-returns-in_default-read_number-clause-value c = tt
+pub returns-in_default-clause-taken : goal.returns-in_default-clause-taken
+returns-in_default-clause-taken c = tt
 
 pub returns-in_default-read_number-clause-low : goal.returns-in_default-read_number-clause-low
 returns-in_default-read_number-clause-low c = tt
@@ -27,14 +18,11 @@ returns-in_default-read_number-clause-low c = tt
 pub returns-in_default-read_number-clause-high : goal.returns-in_default-read_number-clause-high
 returns-in_default-read_number-clause-high c = tt
 
-pub returns-in_default-read_number-clause-rest : goal.returns-in_default-read_number-clause-rest
-returns-in_default-read_number-clause-rest c = tt
-
 pub returns-in_default-read_number-clause-item_number : goal.returns-in_default-read_number-clause-item_number
 returns-in_default-read_number-clause-item_number c = tt
 
-pub returns-in_default-read_number-clause-passed : goal.returns-in_default-read_number-clause-passed
-returns-in_default-read_number-clause-passed c = tt
+pub returns-in_default-read_number-clause-taken : goal.returns-in_default-read_number-clause-taken
+returns-in_default-read_number-clause-taken c = tt
 
 pub returns-clause-refused : goal.returns-clause-refused
 returns-clause-refused c = tt

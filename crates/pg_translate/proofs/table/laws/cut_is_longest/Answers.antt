@@ -1,6 +1,0 @@
-use Rattle.std.proofs.Common.{length, le_refl}
-use Rattle.pg_translate.proofs.CutLaws.{longest}
-use Rattle.pg_translate.proofs.table.laws.cut_is_longest.Goals as goal
-
-pub returns : goal.returns
-returns c = λ line. longest c.args.table.now c.keeps_rules.ensures c.args.place (length line) 1 line (le_refl (length line))
