@@ -5,13 +5,12 @@ use Rattle.std.proofs.lemmas.List.{get_or_past, get_or_default}
 use Rattle.std.specs.List.{list_any}
 use Rattle.std.specs.Option.{option_map}
 use Rattle.std.specs.FinMap.{find, put, is_sorted}
-use Rattle.pg_types.specs.Placement.{Family, Families, family_at, is_used, with_one_sign, with_sign, with_placed_family, base_of}
-use Rattle.pg_types.specs.Inside.PlacementSteps.{without_family, least_base}
+use Rattle.pg_types.specs.Placement.{Family, Families, family_at, base_of}
+use Rattle.pg_types.specs.Inside.PlacementSteps.{is_used, least_base, with_new_sign, with_one_sign, with_placed_family, without_family}
 use Rattle.pg_types.specs.Inside.Placing.{cell_of}
 use Rattle.pg_cells.specs.declared.store.fit.Slot.{Slot}
 use Rattle.pg_cells.specs.Inside.store.CellRows.{Row, sign_at, child_at, base_at, IsFree}
 use Rattle.pg_cells.specs.Inside.store.Store.{Extends}
-use Rattle.pg_cells.specs.Inside.families.Searches.{search_start}
 use Rattle.pg_cells.specs.Inside.store.Fit.{slot_signs, slot_of}
 use Rattle.pg_cells.specs.Inside.store.Writes.{Takes}
 use Rattle.pg_cells.specs.Inside.families.Moves.{IsOutsideFamily, CanPlace, MovesFamily, AreSlotsOf}
@@ -52,52 +51,52 @@ without_none fs p sorted none = same_maps (without_family fs p) fs (sorted_witho
 ])
 
 -- the step of the placement, in its three cases
-pub sign_new : (few n : ℕ) (fs : Families) (p : List ℕ) (s : ℕ) → T (is_sorted order fs) → family_at fs p ≡ None
-    → with_sign (search_start few n) fs p s ≡ put order p (record { base = least_base (search_start few n) (without_family fs p) (s ∷ []); signs = s ∷ [] }) (without_family fs p)
-unfolding with_sign
-sign_new few n fs p s sorted none =
+pub sign_new : (n : ℕ) (fs : Families) (p : List ℕ) (s : ℕ) → T (is_sorted order fs) → family_at fs p ≡ None
+    → with_new_sign n fs p s ≡ put order p (record { base = least_base n (without_family fs p) (s ∷ []); signs = s ∷ [] }) (without_family fs p)
+unfolding with_new_sign
+sign_new n fs p s sorted none =
     ap (λ o. elim o as (λ _. Families) [
-      | None ↦ with_placed_family (search_start few n) fs p (s ∷ [])
+      | None ↦ with_placed_family n fs p (s ∷ [])
       | Some f ↦ elim (is_used fs (f.base + s)) as (λ _. Families) [
         | false ↦ put order p (record { base = f.base; signs = with_one_sign s f.signs }) fs
-        | true ↦ with_placed_family (search_start few n) (without_family fs p) p (with_one_sign s f.signs)
+        | true ↦ with_placed_family n (without_family fs p) p (with_one_sign s f.signs)
       ]
     ]) none
-    ∙ ap (λ l. put order p (record { base = least_base (search_start few n) l (s ∷ []); signs = s ∷ [] }) l) (sym (without_none fs p sorted none))
+    ∙ ap (λ l. put order p (record { base = least_base n l (s ∷ []); signs = s ∷ [] }) l) (sym (without_none fs p sorted none))
 
-pub sign_joins : (few n : ℕ) (fs : Families) (p : List ℕ) (s : ℕ) (f : Family) → family_at fs p ≡ Some f → is_used fs (f.base + s) ≡ false
-    → with_sign (search_start few n) fs p s ≡ put order p (record { base = f.base; signs = with_one_sign s f.signs }) fs
-unfolding with_sign
-sign_joins few n fs p s f at free =
+pub sign_joins : (n : ℕ) (fs : Families) (p : List ℕ) (s : ℕ) (f : Family) → family_at fs p ≡ Some f → is_used fs (f.base + s) ≡ false
+    → with_new_sign n fs p s ≡ put order p (record { base = f.base; signs = with_one_sign s f.signs }) fs
+unfolding with_new_sign
+sign_joins n fs p s f at free =
     ap (λ o. elim o as (λ _. Families) [
-      | None ↦ with_placed_family (search_start few n) fs p (s ∷ [])
+      | None ↦ with_placed_family n fs p (s ∷ [])
       | Some f ↦ elim (is_used fs (f.base + s)) as (λ _. Families) [
         | false ↦ put order p (record { base = f.base; signs = with_one_sign s f.signs }) fs
-        | true ↦ with_placed_family (search_start few n) (without_family fs p) p (with_one_sign s f.signs)
+        | true ↦ with_placed_family n (without_family fs p) p (with_one_sign s f.signs)
       ]
     ]) at
     ∙ ap (λ b. elim b as (λ _. Families) [
       | false ↦ put order p (record { base = f.base; signs = with_one_sign s f.signs }) fs
-      | true ↦ with_placed_family (search_start few n) (without_family fs p) p (with_one_sign s f.signs)
+      | true ↦ with_placed_family n (without_family fs p) p (with_one_sign s f.signs)
     ]) free
 
-pub sign_moves : (few n : ℕ) (fs : Families) (p : List ℕ) (s : ℕ) (f : Family) → family_at fs p ≡ Some f → is_used fs (f.base + s) ≡ true
-    → with_sign (search_start few n) fs p s ≡ with_placed_family (search_start few n) (without_family fs p) p (with_one_sign s f.signs)
-unfolding with_sign
-sign_moves few n fs p s f at used =
+pub sign_moves : (n : ℕ) (fs : Families) (p : List ℕ) (s : ℕ) (f : Family) → family_at fs p ≡ Some f → is_used fs (f.base + s) ≡ true
+    → with_new_sign n fs p s ≡ with_placed_family n (without_family fs p) p (with_one_sign s f.signs)
+unfolding with_new_sign
+sign_moves n fs p s f at used =
     ap (λ o. elim o as (λ _. Families) [
-      | None ↦ with_placed_family (search_start few n) fs p (s ∷ [])
+      | None ↦ with_placed_family n fs p (s ∷ [])
       | Some f ↦ elim (is_used fs (f.base + s)) as (λ _. Families) [
         | false ↦ put order p (record { base = f.base; signs = with_one_sign s f.signs }) fs
-        | true ↦ with_placed_family (search_start few n) (without_family fs p) p (with_one_sign s f.signs)
+        | true ↦ with_placed_family n (without_family fs p) p (with_one_sign s f.signs)
       ]
     ]) at
     ∙ ap (λ b. elim b as (λ _. Families) [
       | false ↦ put order p (record { base = f.base; signs = with_one_sign s f.signs }) fs
-      | true ↦ with_placed_family (search_start few n) (without_family fs p) p (with_one_sign s f.signs)
+      | true ↦ with_placed_family n (without_family fs p) p (with_one_sign s f.signs)
     ]) used
 
-module _ {V : Type 0} (few n : ℕ) (r : Row V) (t : Trie V) (trie : IsTrie n r t) (p : List ℕ) (parent : ℕ) (parent_is : cell_of t.families p ≡ Some parent)
+module _ {V : Type 0} (n : ℕ) (r : Row V) (t : Trie V) (trie : IsTrie n r t) (p : List ℕ) (parent : ℕ) (parent_is : cell_of t.families p ≡ Some parent)
     (s : ℕ) (low : 1 ≤ s) (high : s ≤ n) (lacks : cell_of t.families (p ++ s ∷ []) ≡ None) where
   -- the family lacks the sign
   lacks_sign : (f : Family) → family_at t.families p ≡ Some f → list_any (nat_eq s) f.signs ≡ false
@@ -117,10 +116,10 @@ module _ {V : Type 0} (few n : ℕ) (r : Row V) (t : Trie V) (trie : IsTrie n r 
   ]
 
   -- a sign joins in place
-  pub trie_joins : (f : Family) → family_at t.families p ≡ Some f → sign_at r (f.base + s) ≡ 0 → (new : Row V) (v : V) → Takes r new (f.base + s) s v 0 → IsTrie n new (with_sign_below few n t p s v)
+  pub trie_joins : (f : Family) → family_at t.families p ≡ Some f → sign_at r (f.base + s) ≡ 0 → (new : Row V) (v : V) → Takes r new (f.base + s) s v 0 → IsTrie n new (with_sign_below n t p s v)
   trie_joins f at free new v takes =
       subst (λ fs. IsTrie n new (record { families = fs; values = put order (p ++ s ∷ []) v t.values }))
-      (sym (sign_joins few n t.families p s f at (join_free f at free)))
+      (sym (sign_joins n t.families p s f at (join_free f at free)))
       (trie_joined n r new t trie p parent parent_is f at s low high v (lacks_sign f at) free takes)
 
   module _ (was : ℕ) (slots : List (Slot V)) (own : Owned n r t p was slots) where
@@ -201,25 +200,25 @@ module _ {V : Type 0} (few n : ℕ) (r : Row V) (t : Trie V) (trie : IsTrie n r 
             )
 
     -- the family, or none, is settled with the sign
-    pub trie_settles : (new : Row V) (base : ℕ) (slot : Slot V) → slot.sign ≡ s → CanPlace n r was slots slot parent → MovesFamily few n r new was base slots slot parent
-        → with_sign (search_start few n) t.families p s
-        ≡ put order p (record { base = least_base (search_start few n) (without_family t.families p) (with_one_sign s (slot_signs slots)); signs = with_one_sign s (slot_signs slots) })
+    pub trie_settles : (new : Row V) (base : ℕ) (slot : Slot V) → slot.sign ≡ s → CanPlace n r was slots slot parent → MovesFamily n r new was base slots slot parent
+        → with_new_sign n t.families p s
+        ≡ put order p (record { base = least_base n (without_family t.families p) (with_one_sign s (slot_signs slots)); signs = with_one_sign s (slot_signs slots) })
         (without_family t.families p)
-        → IsTrie n new (with_sign_below few n t p s slot.value)
+        → IsTrie n new (with_sign_below n t p s slot.value)
     trie_settles new base slot is can moved step =
-        let whole = trie_moved few n r new t trie p parent parent_is was base slots slot own can moved in
-        let least = base_is few n r new t trie p parent parent_is was base slots slot own can moved in
-        let families : put order p (record { base = base; signs = with_one_sign slot.sign (slot_signs slots) }) (without_family t.families p) ≡ with_sign (search_start few n) t.families p s =
+        let whole = trie_moved n r new t trie p parent parent_is was base slots slot own can moved in
+        let least = base_is n r new t trie p parent parent_is was base slots slot own can moved in
+        let families : put order p (record { base = base; signs = with_one_sign slot.sign (slot_signs slots) }) (without_family t.families p) ≡ with_new_sign n t.families p s =
         (λ i. put order p (record { base = least i; signs = with_one_sign slot.sign (slot_signs slots) }) (without_family t.families p))
-        ∙ (λ i. put order p (record { base = least_base (search_start few n) (without_family t.families p) (with_one_sign (is i) (slot_signs slots)); signs = with_one_sign (is i) (slot_signs slots) })
+        ∙ (λ i. put order p (record { base = least_base n (without_family t.families p) (with_one_sign (is i) (slot_signs slots)); signs = with_one_sign (is i) (slot_signs slots) })
         (without_family t.families p))
         ∙ sym step in
         subst (IsTrie n new) (λ i. record { families = families i; values = put order (p ++ is i ∷ []) slot.value t.values }) whole
 
 -- the base of a family that was moved is in the row
-pub moved_near : {V : Type 0} (few n : ℕ) (r new : Row V) (was base : ℕ) (slots : List (Slot V)) (slot : Slot V) (parent : ℕ) → MovesFamily few n r new was base slots slot parent
+pub moved_near : {V : Type 0} (n : ℕ) (r new : Row V) (was base : ℕ) (slots : List (Slot V)) (slot : Slot V) (parent : ℕ) → MovesFamily n r new was base slots slot parent
     → base ≤ length r.signs + 1
-moved_near {V} few n r new was base slots slot parent moved =
+moved_near {V} n r new was base slots slot parent moved =
     let size : length moved.dropped.signs ≡ length moved.gave.signs = elim moved.drops [ inl h ↦ ap (λ (k : Row V). length k.signs) h.1 | inr h ↦ h.1.size ] in
     omega (arith, moved.near, moved.is_top.within, moved.gives.others.size)
 
@@ -229,7 +228,7 @@ cond_none true k None e is = refl
 cond_none true k (Some f) e is = cc
 cond_none false k o e is = cc
 
-module _ {V : Type 0} (few n : ℕ) (old r : Row V) (t : Trie V) (before : IsTrie n old t) (more : Extends old r) (p : List ℕ) (parent : ℕ) (parent_is : cell_of t.families p ≡ Some parent)
+module _ {V : Type 0} (n : ℕ) (old r : Row V) (t : Trie V) (before : IsTrie n old t) (more : Extends old r) (p : List ℕ) (parent : ℕ) (parent_is : cell_of t.families p ≡ Some parent)
     (s : ℕ) (low : 1 ≤ s) (high : s ≤ n) (lacks : cell_of t.families (p ++ s ∷ []) ≡ None) (base : ℕ) (base_is_child : base ≡ child_at r parent) where
   pub grown : IsTrie n r t
   grown = trie_extended n old r t before more
@@ -258,16 +257,16 @@ module _ {V : Type 0} (few n : ℕ) (old r : Row V) (t : Trie V) (before : IsTri
   ]
 
   -- the sign joins
-  pub joins_trie : 0 < base → sign_at r (base + s) ≡ 0 → (new : Row V) (v : V) → Takes r new (base + s) s v 0 → IsTrie n new (with_sign_below few n t p s v)
+  pub joins_trie : 0 < base → sign_at r (base + s) ≡ 0 → (new : Row V) (v : V) → Takes r new (base + s) s v 0 → IsTrie n new (with_sign_below n t p s v)
   joins_trie up free new v takes =
       let f = some_family up in
-      trie_joins few n r t grown p parent parent_is s low high lacks f.0 f.1 (ap (λ b. sign_at r (b + s)) f.2 ∙ free) new v (subst (λ b. Takes r new (b + s) s v 0) (sym f.2) takes)
+      trie_joins n r t grown p parent parent_is s low high lacks f.0 f.1 (ap (λ b. sign_at r (b + s)) f.2 ∙ free) new v (subst (λ b. Takes r new (b + s) s v 0) (sym f.2) takes)
 
-  pub joins_cell : 0 < base → sign_at r (base + s) ≡ 0 → cell_of (with_sign (search_start few n) t.families p s) (p ++ s ∷ []) ≡ Some (base + s)
+  pub joins_cell : 0 < base → sign_at r (base + s) ≡ 0 → cell_of (with_new_sign n t.families p s) (p ++ s ∷ []) ≡ Some (base + s)
   joins_cell up free =
       let f = some_family up in
-      let unused = join_free few n r t grown p parent parent_is s low high lacks f.0 f.1 (ap (λ b. sign_at r (b + s)) f.2 ∙ free) in
-      ap (λ fs. cell_of fs (p ++ s ∷ [])) (sign_joins few n t.families p s f.0 f.1 unused)
+      let unused = join_free n r t grown p parent parent_is s low high lacks f.0 f.1 (ap (λ b. sign_at r (b + s)) f.2 ∙ free) in
+      ap (λ fs. cell_of fs (p ++ s ∷ [])) (sign_joins n t.families p s f.0 f.1 unused)
       ∙ parts_cell (put order p (joined f.0 s) t.families) p s (joined f.0 s) (find_put_same p (joined f.0 s) t.families)
       (any_one_more s s f.0.signs ∙ or_left (nat_eq s s) (list_any (nat_eq s) f.0.signs) (eq-eqb s s refl))
       ∙ ap (λ b. Some (b + s)) f.2
@@ -294,36 +293,36 @@ module _ {V : Type 0} (few n : ℕ) (old r : Row V) (t : Trie V) (before : IsTri
     pub settles_can : (slot : Slot V) → slot.sign ≡ s → slot.child ≡ 0 → length r.bases ≡ length r.signs → ((i : ℕ) → sign_at old i ≢ 0 → i + (n + 2) ≤ length r.signs)
         → CanPlace n r base slots slot parent
     settles_can slot is no_child even room =
-        can_settle few n r t grown p parent parent_is s low high lacks base slots owned slot is no_child no_join even (λ i up. room i (λ z. up (more.signs i ∙ z)))
+        can_settle n r t grown p parent parent_is s low high lacks base slots owned slot is no_child no_join even (λ i up. room i (λ z. up (more.signs i ∙ z)))
 
     -- the step of the placement, where the sign does not join
-    pub settles_step : with_sign (search_start few n) t.families p s
-        ≡ put order p (record { base = least_base (search_start few n) (without_family t.families p) (with_one_sign s (slot_signs slots)); signs = with_one_sign s (slot_signs slots) })
+    pub settles_step : with_new_sign n t.families p s
+        ≡ put order p (record { base = least_base n (without_family t.families p) (with_one_sign s (slot_signs slots)); signs = with_one_sign s (slot_signs slots) })
         (without_family t.families p)
     settles_step = elim (cases_eq base 0) [
       | inl z ↦
-          sign_new few n t.families p s grown.sorted (no_family z)
-          ∙ ap (λ l. put order p (record { base = least_base (search_start few n) (without_family t.families p) (with_one_sign s (slot_signs l)); signs = with_one_sign s (slot_signs l) })
+          sign_new n t.families p s grown.sorted (no_family z)
+          ∙ ap (λ l. put order p (record { base = least_base n (without_family t.families p) (with_one_sign s (slot_signs l)); signs = with_one_sign s (slot_signs l) })
           (without_family t.families p))
           (sym (none z))
       | inr up ↦
           let f = some_family (omega arith) in
           let used = taken_used n r t.families grown.sorted grown.layout (f.0.base + s) (λ z. no_join (omega arith) (ap (λ b. sign_at r (b + s)) (sym f.2) ∙ z)) in
           let signs : f.0.signs ≡ slot_signs slots = grown.layout.members p f.0 f.1 ∙ ap (signs_at_base n r) f.2 ∙ sym (some (omega arith)).signs in
-          sign_moves few n t.families p s f.0 f.1 used
-          ∙ ap (λ xs. put order p (record { base = least_base (search_start few n) (without_family t.families p) (with_one_sign s xs); signs = with_one_sign s xs })
+          sign_moves n t.families p s f.0 f.1 used
+          ∙ ap (λ xs. put order p (record { base = least_base n (without_family t.families p) (with_one_sign s xs); signs = with_one_sign s xs })
           (without_family t.families p)) signs
     ]
 
-    module _ (new : Row V) (at : ℕ) (slot : Slot V) (is : slot.sign ≡ s) (can : CanPlace n r base slots slot parent) (moved : MovesFamily few n r new base at slots slot parent) where
-      pub settles_trie : IsTrie n new (with_sign_below few n t p s slot.value)
-      settles_trie = trie_settles few n r t grown p parent parent_is s low high lacks base slots owned new at slot is can moved settles_step
+    module _ (new : Row V) (at : ℕ) (slot : Slot V) (is : slot.sign ≡ s) (can : CanPlace n r base slots slot parent) (moved : MovesFamily n r new base at slots slot parent) where
+      pub settles_trie : IsTrie n new (with_sign_below n t p s slot.value)
+      settles_trie = trie_settles n r t grown p parent parent_is s low high lacks base slots owned new at slot is can moved settles_step
 
-      pub settles_cell : cell_of (with_sign (search_start few n) t.families p s) (p ++ s ∷ []) ≡ Some (at + s)
+      pub settles_cell : cell_of (with_new_sign n t.families p s) (p ++ s ∷ []) ≡ Some (at + s)
       settles_cell =
-          let least = base_is few n r new t grown p parent parent_is base at slots slot owned can moved in
-          let same : least_base (search_start few n) (without_family t.families p) (with_one_sign s (slot_signs slots)) ≡ at =
-          ap (λ x. least_base (search_start few n) (without_family t.families p) (with_one_sign x (slot_signs slots))) (sym is) ∙ sym least in
+          let least = base_is n r new t grown p parent parent_is base at slots slot owned can moved in
+          let same : least_base n (without_family t.families p) (with_one_sign s (slot_signs slots)) ≡ at =
+          ap (λ x. least_base n (without_family t.families p) (with_one_sign x (slot_signs slots))) (sym is) ∙ sym least in
           ap (λ fs. cell_of fs (p ++ s ∷ [])) (settles_step ∙ ap (λ b. put order p (record { base = b; signs = with_one_sign s (slot_signs slots) }) (without_family t.families p)) same)
           ∙ parts_cell (put order p (record { base = at; signs = with_one_sign s (slot_signs slots) }) (without_family t.families p)) p s
           (record { base = at; signs = with_one_sign s (slot_signs slots) })

@@ -4,13 +4,12 @@ use Rattle.std.proofs.lemmas.Bool.{ne_eqb, eqb-true}
 use Rattle.std.proofs.lemmas.List.{same_from_push}
 use Rattle.std.specs.List.{list_any}
 use Rattle.std.specs.FinMap.{put}
-use Rattle.pg_types.specs.Placement.{Family, Families, family_at, is_used, with_placed_family, with_one_sign, with_sign}
-use Rattle.pg_types.specs.Inside.PlacementSteps.{without_family, least_base}
+use Rattle.pg_types.specs.Placement.{Family, Families, family_at}
+use Rattle.pg_types.specs.Inside.PlacementSteps.{is_used, least_base, with_new_sign, with_one_sign, with_placed_family, without_family}
 use Rattle.pg_types.specs.Inside.Placing.{cell_of, without_sign}
 use Rattle.pg_cells.specs.Inside.families.OneTrie.{last_of}
 use Rattle.pg_cells.proofs.StringMaps.{order, equal_or_not, find_put_same, find_put_other, find_without_same, find_without_other}
 use Rattle.pg_cells.proofs.StringCells.{cell_parts}
-use Rattle.pg_cells.specs.Inside.families.Searches.{search_start}
 use Rattle.pg_cells.proofs.PlacementLaws.{cell_of_last}
 use Rattle.pg_cells.proofs.Removing.{signs_left}
 use Rattle.pg_cells.proofs.RemovedValues.{cell_told}
@@ -74,35 +73,35 @@ cells_stay fs q s cell is p other =
     ]
 
 -- a sign that is added leaves the other families
-other_families : (few n : ℕ) (fs : Families) (q : List ℕ) (s : ℕ) (p : List ℕ) → p ≢ q → family_at (with_sign (search_start few n) fs q s) p ≡ family_at fs p
-unfolding with_sign
-other_families few n fs q s p other = by (family_at fs q)
+other_families : (n : ℕ) (fs : Families) (q : List ℕ) (s : ℕ) (p : List ℕ) → p ≢ q → family_at (with_new_sign n fs q s) p ≡ family_at fs p
+unfolding with_new_sign
+other_families n fs q s p other = by (family_at fs q)
   where
     used : (f : Family) (b : Bool) → family_at (elim b as (λ _. Families) [
       | false ↦ put order q (record { base = f.base; signs = with_one_sign s f.signs }) fs
-      | true ↦ with_placed_family (search_start few n) (without_family fs q) q (with_one_sign s f.signs)
+      | true ↦ with_placed_family n (without_family fs q) q (with_one_sign s f.signs)
     ]) p ≡ family_at fs p
     used f false = find_put_other p q (record { base = f.base; signs = with_one_sign s f.signs }) fs other
     used f true =
-        find_put_other p q (record { base = least_base (search_start few n) (without_family fs q) (with_one_sign s f.signs); signs = with_one_sign s f.signs }) (without_family fs q) other
+        find_put_other p q (record { base = least_base n (without_family fs q) (with_one_sign s f.signs); signs = with_one_sign s f.signs }) (without_family fs q) other
         ∙ find_without_other p q fs other
 
     by : (o : Option Family) → family_at (elim o as (λ _. Families) [
-      | None ↦ with_placed_family (search_start few n) fs q (s ∷ [])
+      | None ↦ with_placed_family n fs q (s ∷ [])
       | Some f ↦ elim (is_used fs (f.base + s)) as (λ _. Families) [
         | false ↦ put order q (record { base = f.base; signs = with_one_sign s f.signs }) fs
-        | true ↦ with_placed_family (search_start few n) (without_family fs q) q (with_one_sign s f.signs)
+        | true ↦ with_placed_family n (without_family fs q) q (with_one_sign s f.signs)
       ]
     ]) p ≡ family_at fs p
-    by None = find_put_other p q (record { base = least_base (search_start few n) fs (s ∷ []); signs = s ∷ [] }) fs other
+    by None = find_put_other p q (record { base = least_base n fs (s ∷ []); signs = s ∷ [] }) fs other
     by (Some f) = used f (is_used fs (f.base + s))
 
 -- and each string outside of its family its cell
-pub cells_outside : (few n : ℕ) (fs : Families) (q : List ℕ) (s : ℕ) (p : List ℕ) → ((x : ℕ) → p ≢ q ++ x ∷ []) → cell_of (with_sign (search_start few n) fs q s) p ≡ cell_of fs p
-cells_outside few n fs q s p other = elim (last_of p) [
-  | inl e ↦ ap (cell_of (with_sign (search_start few n) fs q s)) e ∙ sym (ap (cell_of fs) e)
+pub cells_outside : (n : ℕ) (fs : Families) (q : List ℕ) (s : ℕ) (p : List ℕ) → ((x : ℕ) → p ≢ q ++ x ∷ []) → cell_of (with_new_sign n fs q s) p ≡ cell_of fs p
+cells_outside n fs q s p other = elim (last_of p) [
+  | inl e ↦ ap (cell_of (with_new_sign n fs q s)) e ∙ sym (ap (cell_of fs) e)
   | inr h ↦
-      ap (cell_of (with_sign (search_start few n) fs q s)) h.whole ∙ cell_of_last (with_sign (search_start few n) fs q s) h.front h.last
-      ∙ ap (λ o. cell_told o h.last) (other_families few n fs q s h.front (λ z. other h.last (h.whole ∙ ap (λ l. l ++ h.last ∷ []) z)))
+      ap (cell_of (with_new_sign n fs q s)) h.whole ∙ cell_of_last (with_new_sign n fs q s) h.front h.last
+      ∙ ap (λ o. cell_told o h.last) (other_families n fs q s h.front (λ z. other h.last (h.whole ∙ ap (λ l. l ++ h.last ∷ []) z)))
       ∙ sym (ap (cell_of fs) h.whole ∙ cell_of_last fs h.front h.last)
 ]

@@ -4,8 +4,8 @@ use Rattle.std.proofs.lemmas.Bool.{cases_Bool, cases_eq, eq-eqb, ne_eqb, both_wa
 use Rattle.std.proofs.lemmas.List.{length-map}
 use Rattle.std.specs.List.{list_any, list_all}
 use Rattle.std.specs.FinMap.{is_sorted}
-use Rattle.pg_types.specs.Placement.{Family, Families, family_at, is_used, with_one_sign, top}
-use Rattle.pg_types.specs.Inside.PlacementSteps.{without_family, is_base, fits_at, least_base}
+use Rattle.pg_types.specs.Placement.{Family, Families, family_at, top, fits_at}
+use Rattle.pg_types.specs.Inside.PlacementSteps.{is_base, is_used, least_base, lowest_base, with_one_sign, without_family}
 use Rattle.pg_types.specs.Inside.Placing.{IsLeast}
 use Rattle.pg_cells.specs.declared.store.fit.Slot.{Slot}
 use Rattle.pg_cells.specs.Inside.store.CellRows.{Row, sign_at, child_at, base_at}
@@ -15,8 +15,8 @@ use Rattle.pg_cells.specs.Inside.families.Moves.{GivesUp, DropsBase, IsOutsideFa
 use Rattle.pg_cells.specs.Inside.linked.ValuedFamilies.{Trie}
 use Rattle.pg_cells.specs.Inside.families.Layouts.{IsTrie}
 use Rattle.pg_cells.proofs.StringMaps.{order, find_without_same, find_without_other, sorted_without, equal_or_not}
-use Rattle.pg_cells.specs.Inside.families.Searches.{search_start}
-use Rattle.pg_cells.proofs.PlacementLaws.{start_positive, used_cell, cell_used, base_had, had_base, top_is, first_is}
+use Rattle.pg_types.proofs.LeastBase.{lowest_positive}
+use Rattle.pg_cells.proofs.PlacementLaws.{used_cell, cell_used, base_had, had_base, top_is, first_is}
 use Rattle.pg_cells.proofs.LayoutLaws.{sign_stands, stands_sign}
 use Rattle.pg_cells.proofs.OneSign.{all_one_more, length_one_more}
 use Rattle.pg_cells.proofs.Slots.{slot_or_none, has_slot, outside_or}
@@ -175,19 +175,19 @@ module _ {V : Type 0} (n : ℕ) (r gave dropped : Row V) (t : Trie V) (trie : Is
       (λ i. not (base_test b i) && list_all (λ x. free_test (b + x) i) (s ∷ slot_signs slots))
       ∙ ap (λ x. not (is_base (without_family t.families p) b) && x) (sym (all_one_more (λ x. not (is_used (without_family t.families p) (b + x))) s (slot_signs slots)))
 
-  pub least_same : (few s base top_now : ℕ) → slot_of slots s ≡ None → IsTop dropped.signs top_now
-      → IsLeast (fits_row dropped (s ∷ slot_signs slots)) (search_start few n (length slots + 1) top_now) base → base ≤ max 1 top_now
-      → base ≡ least_base (search_start few n) (without_family t.families p) (with_one_sign s (slot_signs slots))
-  least_same few s base top_now lacks is_top least near =
+  pub least_same : (s base top_now : ℕ) → slot_of slots s ≡ None → IsTop dropped.signs top_now
+      → IsLeast (fits_row dropped (s ∷ slot_signs slots)) (lowest_base n (length slots + 1) top_now) base → base ≤ max 1 top_now
+      → base ≡ least_base n (without_family t.families p) (with_one_sign s (slot_signs slots))
+  least_same s base top_now lacks is_top least near =
       let same = top_same top_now is_top in
       let count : length slots + 1 ≡ length (with_one_sign s (slot_signs slots)) =
       ap (λ k. k + 1) (sym (length-map slots (λ (k : Slot V). k.sign))) ∙ sym (length_one_more s (slot_signs slots) (no_sign (list_any (nat_eq s) (slot_signs slots)) refl)) in
-      let low : search_start few n (length slots + 1) top_now ≡ search_start few n (length (with_one_sign s (slot_signs slots))) (top (without_family t.families p)) =
-      λ i. search_start few n (count i) (same i) in
+      let low : lowest_base n (length slots + 1) top_now ≡ lowest_base n (length (with_one_sign s (slot_signs slots))) (top (without_family t.families p)) =
+      λ i. lowest_base n (count i) (same i) in
       sym (first_is (fits_at (without_family t.families p) (with_one_sign s (slot_signs slots))) (top (without_family t.families p))
-      (search_start few n (length (with_one_sign s (slot_signs slots))) (top (without_family t.families p))) base
+      (lowest_base n (length (with_one_sign s (slot_signs slots))) (top (without_family t.families p))) base
       (subst (λ k. k ≤ base) low least.from)
-      (let some = start_positive few n (length (with_one_sign s (slot_signs slots))) (top (without_family t.families p)) in omega arith)
+      (let some = lowest_positive n (length (with_one_sign s (slot_signs slots))) (top (without_family t.families p)) in omega arith)
       (sym (fit_same s base) ∙ least.meets)
       (λ k l lt. sym (fit_same s k) ∙ least.first k (subst (λ j. j ≤ k) (sym low) l) lt))
     where

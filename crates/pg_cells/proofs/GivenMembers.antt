@@ -3,7 +3,8 @@ use Rattle.std.proofs.Common.{◌≡◌, ◌≢◌, ℕ, ◌+◌, ◌<◌, ◌�
 use Rattle.std.proofs.lemmas.Bool.{cases_eq, cases_lt, eq-eqb, ne_eqb, eqb-true, both_ways, lt-ltb, false≢true}
 use Rattle.std.proofs.lemmas.List.{same_from_push}
 use Rattle.std.specs.Option.{is_some, option_map}
-use Rattle.pg_types.specs.Placement.{Family, family_at, is_used, base_of}
+use Rattle.pg_types.specs.Placement.{Family, family_at, base_of}
+use Rattle.pg_types.specs.Inside.PlacementSteps.{is_used}
 use Rattle.pg_types.specs.Inside.Placing.{cell_of, joins_at}
 use Rattle.pg_cells.specs.Inside.store.CellRows.{Row, sign_at, child_at}
 use Rattle.pg_cells.specs.Inside.store.Store.{Extends}
@@ -82,7 +83,7 @@ module _ {V : Type 0} (n : ℕ) (r : Row V) (t : Trie V) (trie : IsTrie n r t) (
 pub extends_itself : {V : Type 0} (r : Row V) → Extends r r
 extends_itself r = record { longer = omega arith; signs = λ i. refl; children = λ i. refl; bases = λ i. refl; values = λ i lt. refl; taken = refl }
 
-module _ {V : Type 0} (few n : ℕ) (old r : Row V) (t : Trie V) (before : IsTrie n old t) (more : Extends old r) (p : List ℕ) (parent : ℕ) (parent_is : cell_of t.families p ≡ Some parent)
+module _ {V : Type 0} (n : ℕ) (old r : Row V) (t : Trie V) (before : IsTrie n old t) (more : Extends old r) (p : List ℕ) (parent : ℕ) (parent_is : cell_of t.families p ≡ Some parent)
     (s : ℕ) (low : 1 ≤ s) (high : s ≤ n) (lacks : cell_of t.families (p ++ s ∷ []) ≡ None) (base : ℕ) (base_is_child : base ≡ child_at r parent) where
   -- whether the sign joins, told of the cells
   pub joins_told : (nat_lt 0 base && nat_eq (sign_at r (base + s)) 0) ≡ joins_at t.families p s
@@ -90,37 +91,37 @@ module _ {V : Type 0} (few n : ℕ) (old r : Row V) (t : Trie V) (before : IsTri
     | inl z ↦
         ap (λ b. nat_lt 0 b && nat_eq (sign_at r (b + s)) 0) z
         ∙ sym (ap (λ o. elim o as (λ _. Bool) [ None ↦ false | Some f ↦ not (is_used t.families (f.base + s)) ])
-        (no_family few n old r t before more p parent parent_is s low high lacks base base_is_child z))
+        (no_family n old r t before more p parent parent_is s low high lacks base base_is_child z))
     | inr up ↦
         let positive : 0 < base = omega arith in
-        let f = some_family few n old r t before more p parent parent_is s low high lacks base base_is_child positive in
+        let f = some_family n old r t before more p parent parent_is s low high lacks base base_is_child positive in
         let told : joins_at t.families p s ≡ not (is_used t.families (f.0.base + s)) =
         ap (λ o. elim o as (λ _. Bool) [ None ↦ false | Some g ↦ not (is_used t.families (g.base + s)) ]) f.1 in
         ap (λ b. b && nat_eq (sign_at r (base + s)) 0) (lt-ltb 0 base positive) ∙ free_told f.0 f.1 f.2 ∙ sym told
   ]
     where
       trie : IsTrie n r t
-      trie = grown few n old r t before more p parent parent_is s low high lacks base base_is_child
+      trie = grown n old r t before more p parent parent_is s low high lacks base base_is_child
 
       free_told : (f : Family) → family_at t.families p ≡ Some f → f.base ≡ base → nat_eq (sign_at r (base + s)) 0 ≡ not (is_used t.families (f.base + s))
       free_told f at is = elim (cases_eq (sign_at r (base + s)) 0) [
-        | inl free ↦ eq-eqb (sign_at r (base + s)) 0 free ∙ sym (ap not (join_free few n r t trie p parent parent_is s low high lacks f at (ap (λ b. sign_at r (b + s)) is ∙ free)))
+        | inl free ↦ eq-eqb (sign_at r (base + s)) 0 free ∙ sym (ap not (join_free n r t trie p parent parent_is s low high lacks f at (ap (λ b. sign_at r (b + s)) is ∙ free)))
         | inr taken ↦ ne_eqb (sign_at r (base + s)) 0 taken ∙ sym (ap not (taken_used n r t.families trie.sorted trie.layout (f.base + s) (λ z. taken (ap (λ b. sign_at r (b + s)) (sym is) ∙ z))))
       ]
 
   -- where there is no family, it has no members
   pub given_none : (xs : List ℕ) → base ≡ 0 → ArePassing (has_sign t.families p) xs → xs ≡ []
   given_none xs z are =
-      let none = no_family few n old r t before more p parent parent_is s low high lacks base base_is_child z in
+      let none = no_family n old r t before more p parent parent_is s low high lacks base base_is_child z in
       none_passing (has_sign t.families p) xs (λ x. ap is_some (childless t.families p x (ap (option_map (λ (f : Family). f.base)) none))) are
 
   -- and else they stand at its base
   pub given_some : (xs : List ℕ) → 0 < base → ArePassing (has_sign t.families p) xs → ArePassing (λ x. nat_eq (sign_at r (base + x)) x) xs
   given_some xs up are =
-      let f = some_family few n old r t before more p parent parent_is s low high lacks base base_is_child up in
+      let f = some_family n old r t before more p parent parent_is s low high lacks base base_is_child up in
       let has : base_of t.families p ≡ Some base = ap (option_map (λ (g : Family). g.base)) f.1 ∙ ap Some f.2 in
       passing_alike (has_sign t.families p) (λ x. nat_eq (sign_at r (base + x)) x) xs
-      (sign_told n r t (grown few n old r t before more p parent parent_is s low high lacks base base_is_child) p base has) are
+      (sign_told n r t (grown n old r t before more p parent parent_is s low high lacks base base_is_child) p base has) are
 
   -- the members that are owed where the sign does not join
   pub given_are : (xs : List ℕ) (h : ValuedFamilies V) → ◌≡◌ {A = ValuedFamilies V} (record { signs = n; families = t.families; values = t.values }) h

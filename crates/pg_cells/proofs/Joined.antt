@@ -3,7 +3,8 @@ use Rattle.std.proofs.Common.{◌≡◌, ◌≢◌, ℕ, ◌+◌, ◌<◌, ◌�
 use Rattle.std.proofs.lemmas.Bool.{cases_Bool, cases_eq, false≢true, eq-eqb, ne_eqb, eqb-true, both_ways, or_left, or_right, or_cases}
 use Rattle.std.specs.List.{list_any}
 use Rattle.std.specs.FinMap.{put}
-use Rattle.pg_types.specs.Placement.{Family, Families, family_at, with_one_sign}
+use Rattle.pg_types.specs.Placement.{Family, Families, family_at}
+use Rattle.pg_types.specs.Inside.PlacementSteps.{with_one_sign}
 use Rattle.pg_types.specs.Inside.Placing.{cell_of}
 use Rattle.pg_cells.specs.Inside.store.CellRows.{Row, sign_at, child_at, base_at}
 use Rattle.pg_cells.specs.Inside.store.Writes.{Takes}

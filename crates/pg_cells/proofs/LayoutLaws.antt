@@ -3,8 +3,8 @@ use Rattle.std.proofs.Common.{◌≡◌, ◌≢◌, ℕ, ◌+◌, ◌<◌, ◌�
 use Rattle.std.proofs.lemmas.Bool.{cases_Bool, cases_eq, false≢true, or_cases, or_left, or_right, eqb-true, eq-eqb, ne_eqb, both_ways}
 use Rattle.std.specs.List.{list_any, range_with_len}
 use Rattle.std.specs.FinMap.{is_sorted}
-use Rattle.pg_types.specs.Placement.{Family, Families, family_at, is_used, top}
-use Rattle.pg_types.specs.Inside.PlacementSteps.{is_base}
+use Rattle.pg_types.specs.Placement.{Family, Families, family_at, top}
+use Rattle.pg_types.specs.Inside.PlacementSteps.{is_base, is_used}
 use Rattle.pg_cells.specs.Inside.store.CellRows.{Row, sign_at, child_at, base_at}
 use Rattle.pg_cells.specs.Inside.store.Store.{IsTop}
 use Rattle.pg_cells.specs.Inside.families.Layouts.{AreLaidOut, signs_at_base}

@@ -42,6 +42,7 @@ pub mod Removing
 pub mod RootSteps
 pub mod RootTrie
 pub mod RowWrites
+pub mod SignLaws
 pub mod Slots
 pub mod StoreSteps
 pub mod StringCells

@@ -1,9 +1,8 @@
 -- What adding a sign and removing one give, where the signs are linked.
 use Rattle.std.proofs.Common.{◌≡◌, ℕ, ◌≤◌, ◌⊎◌, true, List, [], ◌∷◌, ◌++◌, Ok, Some, sym, ◌∙◌, ap}
 use Rattle.std.specs.FinMap.{put}
-use Rattle.pg_types.specs.Placement.{with_sign}
+use Rattle.pg_types.specs.Inside.PlacementSteps.{with_new_sign}
 use Rattle.pg_types.specs.Inside.Placing.{cell_of, without_sign}
-use Rattle.pg_cells.specs.Inside.families.Searches.{search_start}
 use Rattle.pg_cells.specs.declared.store.member.Member.{Member}
 use Rattle.pg_cells.specs.Inside.families.Adding.{CanTakeSign, AddsSign}
 use Rattle.pg_cells.specs.Inside.linked.AreValuedFamilies.{AreValuedFamilies}
@@ -16,9 +15,9 @@ use Rattle.pg_cells.proofs.SteppedLinks.{add_behind, links_added, values_added, 
 use Rattle.pg_cells.proofs.StringMaps.{order}
 use Rattle.pg_cells.proofs.Unlinked.{plain, held_unlinked}
 
-module _ {V E : Type 0} (few : ℕ) (h mid new : ValuedFamilies (Member V)) (links : AreLinks h) (parent s : ℕ) (can : CanTakeSign h.signs h.families parent s)
+module _ {V E : Type 0} (h mid new : ValuedFamilies (Member V)) (links : AreLinks h) (parent s : ℕ) (can : CanTakeSign h.signs h.families parent s)
     (b : ℕ) (before : IsBefore h.values can.prefix s b) (after : ℕ) (next : IsNextSign h.values can.prefix b after) (v : V) (cell : ℕ)
-    (adds : AddsSign {E = E} few h mid parent s (record { value = v; next = after; first = 0 }) (Ok cell)) where
+    (adds : AddsSign {E = E} h mid parent s (record { value = v; next = after; first = 0 }) (Ok cell)) where
   values_by_add : mid.values ≡ put order (can.prefix ++ s ∷ []) (record { value = v; next = after; first = 0 }) h.values
   values_by_add = ap (λ (k : ValuedFamilies (Member V)). k.values) (adds.held can.prefix can.at)
 
@@ -36,19 +35,19 @@ module _ {V E : Type 0} (few : ℕ) (h mid new : ValuedFamilies (Member V)) (lin
     pub links_of_added : AreLinks new
     links_of_added = links_added h mid new links can.prefix parent can.at s can.low b before can.lacks after next v values_by_add kept is_linked
 
-    seen_added : values_alone new ≡ record (values_alone h) { families = with_sign (search_start few h.signs) h.families can.prefix s; values = put order (can.prefix ++ s ∷ []) v (plain h.values) }
+    seen_added : values_alone new ≡ record (values_alone h) { families = with_new_sign h.signs h.families can.prefix s; values = put order (can.prefix ++ s ∷ []) v (plain h.values) }
     seen_added =
         let held = adds.held can.prefix can.at in
         let signs : new.signs ≡ h.signs = ap (λ (k : ValuedFamilies (Member V)). k.signs) is_linked ∙ ap (λ (k : ValuedFamilies (Member V)). k.signs) held in
-        let families : new.families ≡ with_sign (search_start few h.signs) h.families can.prefix s =
+        let families : new.families ≡ with_new_sign h.signs h.families can.prefix s =
         ap (λ (k : ValuedFamilies (Member V)). k.families) is_linked ∙ ap (λ (k : ValuedFamilies (Member V)). k.families) held in
         let values = values_added h mid new links can.prefix parent can.at s can.low b before can.lacks after next v values_by_add adds.kept.ordered is_linked in
         λ i. record { signs = signs i; families = families i; values = values i }
 
-    pub linked_added : AddsSign {E = E} few (values_alone h) (values_alone new) parent s v (Ok cell)
+    pub linked_added : AddsSign {E = E} (values_alone h) (values_alone new) parent s v (Ok cell)
     linked_added = record {
       held = λ q e. seen_added
-          ∙ ap (λ z. record (values_alone h) { families = with_sign (search_start few h.signs) h.families z s; values = put order (z ++ s ∷ []) v (plain h.values) })
+          ∙ ap (λ z. record (values_alone h) { families = with_new_sign h.signs h.families z s; values = put order (z ++ s ∷ []) v (plain h.values) })
           (links.held.apart can.prefix q parent can.at e);
       cell = λ q e. ap (λ (k : ValuedFamilies (Member V)). cell_of k.families (q ++ s ∷ [])) is_linked ∙ adds.cell q e;
       cells = λ q e r off. ap (λ (k : ValuedFamilies (Member V)). cell_of k.families r) is_linked ∙ adds.cells q e r off;

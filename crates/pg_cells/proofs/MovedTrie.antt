@@ -4,8 +4,8 @@ use Rattle.std.proofs.lemmas.Bool.{cases_eq, eq-eqb, ne_eqb, eqb-true, both_ways
 use Rattle.std.proofs.lemmas.List.{length-map}
 use Rattle.std.specs.List.{list_any, list_all}
 use Rattle.std.specs.FinMap.{put}
-use Rattle.pg_types.specs.Placement.{Family, Families, family_at, with_one_sign}
-use Rattle.pg_types.specs.Inside.PlacementSteps.{without_family, least_base}
+use Rattle.pg_types.specs.Placement.{Family, Families, family_at}
+use Rattle.pg_types.specs.Inside.PlacementSteps.{least_base, with_one_sign, without_family}
 use Rattle.pg_types.specs.Inside.Placing.{cell_of}
 use Rattle.pg_cells.specs.declared.store.fit.Slot.{Slot}
 use Rattle.pg_cells.specs.Inside.store.CellRows.{Row, sign_at, child_at, base_at}
@@ -15,8 +15,8 @@ use Rattle.pg_cells.specs.Inside.store.Store.{taken_in}
 use Rattle.pg_cells.specs.Inside.linked.ValuedFamilies.{Trie}
 use Rattle.pg_cells.specs.Inside.families.Layouts.{IsTrie, signs_at_base}
 use Rattle.pg_cells.proofs.StringMaps.{order, find_put_same, find_put_other, find_without_same, find_without_other, sorted_put, sorted_without, equal_or_not}
-use Rattle.pg_cells.specs.Inside.families.Searches.{search_start}
-use Rattle.pg_cells.proofs.PlacementLaws.{start_positive, size_of, taken_put, taken_without}
+use Rattle.pg_types.proofs.LeastBase.{lowest_positive}
+use Rattle.pg_cells.proofs.PlacementLaws.{size_of, taken_put, taken_without}
 use Rattle.pg_cells.proofs.LayoutLaws.{sign_stands}
 use Rattle.pg_cells.proofs.OneSign.{filter_more, length_one_more, any_one_more}
 use Rattle.pg_cells.proofs.Slots.{slot_or_none, slot_has, has_slot, outside_or, outside_here}
@@ -28,8 +28,8 @@ use Rattle.pg_cells.proofs.Joined.{not_nil}
 use Rattle.pg_cells.proofs.Owned.{Owned}
 use Rattle.pg_cells.proofs.Cleared.{others_outside, sign_outside, child_outside, value_outside, taken_owner, other_flag, flag_other, least_same}
 
-module _ {V : Type 0} (few n : ℕ) (r new : Row V) (t : Trie V) (trie : IsTrie n r t) (p : List ℕ) (parent : ℕ) (parent_is : cell_of t.families p ≡ Some parent)
-    (was base : ℕ) (slots : List (Slot V)) (slot : Slot V) (own : Owned n r t p was slots) (can : CanPlace n r was slots slot parent) (moved : MovesFamily few n r new was base slots slot parent) where
+module _ {V : Type 0} (n : ℕ) (r new : Row V) (t : Trie V) (trie : IsTrie n r t) (p : List ℕ) (parent : ℕ) (parent_is : cell_of t.families p ≡ Some parent)
+    (was base : ℕ) (slots : List (Slot V)) (slot : Slot V) (own : Owned n r t p was slots) (can : CanPlace n r was slots slot parent) (moved : MovesFamily n r new was base slots slot parent) where
   -- the family as it is now, and all families
   abbrev pub family : Family
   family = record { base = base; signs = with_one_sign slot.sign (slot_signs slots) }
@@ -160,7 +160,7 @@ module _ {V : Type 0} (few n : ℕ) (r new : Row V) (t : Trie V) (trie : IsTrie 
       ]
 
   positive_base : 0 < base
-  positive_base = let from = moved.least.from in let low = start_positive few n (length slots + 1) moved.top in omega arith
+  positive_base = let from = moved.least.from in let low = lowest_positive n (length slots + 1) moved.top in omega arith
 
   here : family_at families p ≡ Some family
   here = find_put_same p family (without_family t.families p)
@@ -346,5 +346,5 @@ module _ {V : Type 0} (few n : ℕ) (r new : Row V) (t : Trie V) (trie : IsTrie 
   }
 
   -- the base is the least one of the placement
-  pub base_is : base ≡ least_base (search_start few n) (without_family t.families p) (with_one_sign slot.sign (slot_signs slots))
-  base_is = least_same n r moved.gave moved.dropped t trie p was slots own moved.gives moved.drops few slot.sign base moved.top can.new moved.is_top moved.least moved.near
+  pub base_is : base ≡ least_base n (without_family t.families p) (with_one_sign slot.sign (slot_signs slots))
+  base_is = least_same n r moved.gave moved.dropped t trie p was slots own moved.gives moved.drops slot.sign base moved.top can.new moved.is_top moved.least moved.near

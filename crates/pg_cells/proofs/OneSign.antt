@@ -2,13 +2,13 @@
 use Rattle.std.proofs.Common.{◌≡◌, ◌≢◌, ℕ, ◌+◌, ◌<◌, ◌≤◌, inl, inr, Bool, true, false, cond, ◌||◌, ◌&&◌, nat_eq, nat_lt, List, [], ◌∷◌, filter, length, suc, zero, refl, sym, ◌∙◌, ap, arith}
 use Rattle.std.proofs.lemmas.Bool.{cases_Bool, cases_eq, ne_eqb, lt-ltb, le-ltb, or_parts, eqb-true}
 use Rattle.std.specs.List.{list_any, list_all, range_with_len}
-use Rattle.pg_types.specs.Placement.{with_one_sign}
+use Rattle.pg_types.specs.Inside.PlacementSteps.{with_one_sign}
 
 -- the two tests of a step
-step_first : (s x : ℕ) (xs : List ℕ) → s < x → with_one_sign s (x ∷ xs) ≡ s ∷ x ∷ xs
+pub step_first : (s x : ℕ) (xs : List ℕ) → s < x → with_one_sign s (x ∷ xs) ≡ s ∷ x ∷ xs
 step_first s x xs lt = ap (λ b. cond b (s ∷ x ∷ xs) (cond (nat_eq s x) (x ∷ xs) (x ∷ with_one_sign s xs))) (lt-ltb s x lt)
 
-step_later : (s x : ℕ) (xs : List ℕ) → x < s → with_one_sign s (x ∷ xs) ≡ x ∷ with_one_sign s xs
+pub step_later : (s x : ℕ) (xs : List ℕ) → x < s → with_one_sign s (x ∷ xs) ≡ x ∷ with_one_sign s xs
 step_later s x xs lt =
     ap (λ b. cond b (s ∷ x ∷ xs) (cond (nat_eq s x) (x ∷ xs) (x ∷ with_one_sign s xs))) (le-ltb s x (omega arith))
     ∙ ap (λ b. cond b (x ∷ xs) (x ∷ with_one_sign s xs)) (ne_eqb s x (λ z. omega arith))

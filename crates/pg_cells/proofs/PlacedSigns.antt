@@ -2,9 +2,8 @@
 -- holds.
 use Rattle.std.proofs.Common.{◌≡◌, ℕ, List, [], ◌∷◌, ◌++◌, length, Result, Ok, Err, IfOk, OnOk, Some, refl, sym, ◌∙◌, ap, subst}
 use Rattle.std.specs.FinMap.{put}
-use Rattle.pg_types.specs.Placement.{with_sign}
+use Rattle.pg_types.specs.Inside.PlacementSteps.{with_new_sign}
 use Rattle.pg_types.specs.Inside.Placing.{cell_of, without_sign}
-use Rattle.pg_cells.specs.Inside.families.Searches.{search_start}
 use Rattle.pg_cells.specs.Inside.families.Adding.{CanTakeSign, AddsSign, with_sign_below}
 use Rattle.pg_cells.specs.Inside.linked.CellValues.{SetsValue}
 use Rattle.pg_cells.specs.Inside.families.Layouts.{IsTrie}
@@ -23,29 +22,29 @@ abbrev pub seen : {V : Type 0} → ℕ → Trie V → ValuedFamilies V
 seen n t = record { signs = n; families = t.families; values = t.values }
 
 module _ {V : Type 0} (n : ℕ) (old new : Row V) (t : Trie V) (trie : IsTrie n old t) (even : length new.values ≡ length new.signs) (h : ValuedFamilies V) (view : seen n t ≡ h) (parent s : ℕ) where
-  module _ (can : CanTakeSign n t.families parent s) (few : ℕ) (v : V) where
+  module _ (can : CanTakeSign n t.families parent s) (v : V) where
     same_add : (q : List ℕ) → cell_of t.families q ≡ Some parent → can.prefix ≡ q
     same_add q e = cells_apart n old t trie can.prefix q parent can.at e
 
-    add_by : {E : Type 0} (answer : Result ℕ E) → OnOk answer (IsTrie n new (with_sign_below few n t can.prefix s v))
-        → IfOk answer (λ cell. cell_of (with_sign (search_start few n) t.families can.prefix s) (can.prefix ++ s ∷ []) ≡ Some cell)
-        → AddsSign few (seen n t) (seen n (after few n t can.prefix s v answer)) parent s v answer
+    add_by : {E : Type 0} (answer : Result ℕ E) → OnOk answer (IsTrie n new (with_sign_below n t can.prefix s v))
+        → IfOk answer (λ cell. cell_of (with_new_sign n t.families can.prefix s) (can.prefix ++ s ∷ []) ≡ Some cell)
+        → AddsSign (seen n t) (seen n (after n t can.prefix s v answer)) parent s v answer
     add_by (Ok cell) is at = record {
-      held = λ q e. ap (λ z. record (seen n t) { families = with_sign (search_start few n) t.families z s; values = put order (z ++ s ∷ []) v t.values }) (same_add q e);
-      cell = λ q e. subst (λ z. cell_of (with_sign (search_start few n) t.families can.prefix s) (z ++ s ∷ []) ≡ Some cell) (same_add q e) at;
-      cells = λ q e r off. cells_outside few n t.families can.prefix s r (λ x z. off x (z ∙ ap (λ p. p ++ x ∷ []) (same_add q e)));
-      kept = is_held n new (with_sign_below few n t can.prefix s v) is even;
+      held = λ q e. ap (λ z. record (seen n t) { families = with_new_sign n t.families z s; values = put order (z ++ s ∷ []) v t.values }) (same_add q e);
+      cell = λ q e. subst (λ z. cell_of (with_new_sign n t.families can.prefix s) (z ++ s ∷ []) ≡ Some cell) (same_add q e) at;
+      cells = λ q e r off. cells_outside n t.families can.prefix s r (λ x z. off x (z ∙ ap (λ p. p ++ x ∷ []) (same_add q e)));
+      kept = is_held n new (with_sign_below n t can.prefix s v) is even;
       err = tt;
     }
     add_by (Err e) is at = record { held = λ q e. tt; cell = λ q e. tt; cells = λ q e. tt; kept = tt; err = refl }
 
     -- the sign is added, or memory is short
-    pub placed_added : {E : Type 0} (answer : Result ℕ E) → OnOk answer (IsTrie n new (with_sign_below few n t can.prefix s v))
-        → IfOk answer (λ cell. cell_of (with_sign (search_start few n) t.families can.prefix s) (can.prefix ++ s ∷ []) ≡ Some cell)
-        → (u : Trie V) → u ≡ after few n t can.prefix s v answer → AddsSign few h (seen n u) parent s v answer
+    pub placed_added : {E : Type 0} (answer : Result ℕ E) → OnOk answer (IsTrie n new (with_sign_below n t can.prefix s v))
+        → IfOk answer (λ cell. cell_of (with_new_sign n t.families can.prefix s) (can.prefix ++ s ∷ []) ≡ Some cell)
+        → (u : Trie V) → u ≡ after n t can.prefix s v answer → AddsSign h (seen n u) parent s v answer
     placed_added answer is at u same =
-        subst (λ (k : ValuedFamilies V). AddsSign few k (seen n u) parent s v answer) view
-        (subst (λ (x : Trie V). AddsSign few (seen n t) (seen n x) parent s v answer) (sym same) (add_by answer is at))
+        subst (λ (k : ValuedFamilies V). AddsSign k (seen n u) parent s v answer) view
+        (subst (λ (x : Trie V). AddsSign (seen n t) (seen n x) parent s v answer) (sym same) (add_by answer is at))
 
   module _ (can : CanRemoveSign t.families parent s) (is : IsTrie n new (removed t can.prefix s)) where
     same_remove : (q : List ℕ) → cell_of t.families q ≡ Some parent → can.prefix ≡ q

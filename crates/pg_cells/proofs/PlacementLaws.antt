@@ -1,19 +1,18 @@
 -- Laws of placements: which cells are used and which bases are had, how many cells there are and which is the greatest, and
 -- the least base.
-use Rattle.std.proofs.Common.{◌≡◌, ℕ, ◌+◌, ◌-◌, ◌<◌, ◌≤◌, max, inl, inr, Bool, true, false, not, cond, ◌||◌, T, nat_eq, nat_le, List, [], ◌∷◌, ◌++◌, length, map, fold, Option, None, Some, suc, zero, refl, sym, ◌∙◌, ap, subst, arith}
+use Rattle.std.proofs.Common.{◌≡◌, ℕ, ◌+◌, ◌<◌, ◌≤◌, max, inl, inr, Bool, true, false, not, cond, ◌||◌, T, nat_eq, List, [], ◌∷◌, ◌++◌, length, map, fold, Option, None, Some, unwrap_or, suc, zero, refl, sym, ◌∙◌, ap, arith}
 use Rattle.std.proofs.lemmas.Bool.{cases_Bool, cases_eq, false≢true, or_cases, or_left, or_right, eqb-true, eq-eqb, both_ways}
 use Rattle.std.proofs.lemmas.List.{length-append, length-map, append-nil, append_assoc}
 use Rattle.std.proofs.lemmas.List.Folds.{list_any-append}
 use Rattle.std.specs.declared.cmp.Ordering.TheVariants.{Less, Equal, Greater}
 use Rattle.std.specs.Ordering.{is_eq}
-use Rattle.std.specs.List.{list_any, flat_map}
+use Rattle.std.specs.List.{list_any, flat_map, range_with_len, find as find_that}
 use Rattle.std.specs.FinMap.{find, put, is_sorted}
 use Rattle.std.specs.FinMap.Entries.{by_order}
-use Rattle.pg_types.specs.Placement.{Family, Families, family_at, used_cells, taken_count, top, is_used, first_from, cell_in}
-use Rattle.pg_types.specs.Inside.PlacementSteps.{without_family, is_base}
+use Rattle.pg_types.specs.Placement.{Family, Families, family_at, used_cells, top}
+use Rattle.pg_types.specs.Inside.PlacementSteps.{cell_in, is_base, is_used, taken_count, without_family}
 use Rattle.pg_types.specs.Inside.Placing.{cell_after, cell_of, cells_of}
-use Rattle.pg_types.proofs.LeastBase.{used_le_top, lowest_up}
-use Rattle.pg_cells.specs.Inside.families.Searches.{far_from_top, search_start}
+use Rattle.pg_types.proofs.LeastBase.{used_le_top, find_first, find_later}
 use Rattle.pg_cells.proofs.StringMaps.{order, equal_or_not, any_found, found_any, find_below, below_less, head_below, tail_sorted}
 
 -- a test of some element of lists joined end to end
@@ -115,28 +114,32 @@ taken_without p (e ∷ es) h = elim (equal_or_not p e.0) [
 ]
 
 -- the least of some numbers that passes a test
-pub first_is : (test : ℕ → Bool) (more from b : ℕ) → from ≤ b → b ≤ from + more → test b ≡ true → ((k : ℕ) → from ≤ k → k < b → test k ≡ false) → first_from test more from ≡ b
-first_is test zero from b le within passes before = omega arith
-first_is test (suc more) from b le within passes before =
+first_among : (test : ℕ → Bool) (more from b : ℕ) → from ≤ b → b ≤ from + more → test b ≡ true → ((k : ℕ) → from ≤ k → k < b → test k ≡ false)
+    → unwrap_or (find_that test (range_with_len from (suc more))) 0 ≡ b
+first_among test zero from b le within passes before =
+    let same : from ≡ b = omega arith in
+    find_first test from [] (ap test same ∙ passes) ∙ same
+first_among test (suc more) from b le within passes before =
     elim (cases_Bool (test from)) [
       | inl passed ↦
           let same : from ≡ b = elim (cases_eq from b) [
             | inl e ↦ e
             | inr n ↦ absurd (both_ways (test from) (before from (omega arith) (omega arith)) passed)
           ] in
-          subst (λ t. (elim t as (λ _. ℕ) [ true ↦ from | false ↦ first_from test more (from + 1) ]) ≡ b) (sym passed) same
+          find_first test from (range_with_len (from + 1) (suc more)) passed ∙ same
       | inr failed ↦
           let later : from + 1 ≤ b = elim (cases_eq from b) [
             | inl e ↦ absurd (both_ways (test b) (ap test (sym e) ∙ failed) passes)
             | inr n ↦ omega arith
           ] in
-          subst (λ t. (elim t as (λ _. ℕ) [ true ↦ from | false ↦ first_from test more (from + 1) ]) ≡ b) (sym failed)
-          (first_is test more (from + 1) b later (omega arith) passes (λ k l lt. before k (omega arith) lt))
+          find_later test from (range_with_len (from + 1) (suc more)) failed ∙ first_among test more (from + 1) b later (omega arith) passes (λ k l lt. before k (omega arith) lt)
     ]
 
--- no base below 1 is tried
-pub start_positive : (few n count t : ℕ) → 1 ≤ search_start few n count t
-start_positive few n count t = lowest_up (nat_le count few) (t - far_from_top few n)
+pub first_is : (test : ℕ → Bool) (more from b : ℕ) → from ≤ b → b ≤ from + more → test b ≡ true → ((k : ℕ) → from ≤ k → k < b → test k ≡ false)
+    → unwrap_or (find_that test (range_with_len from (more + 1))) 0 ≡ b
+first_is test more from b le within passes before =
+    let one : more + 1 ≡ suc more = omega arith in
+    ap (λ k. unwrap_or (find_that test (range_with_len from k)) 0) one ∙ first_among test more from b le within passes before
 
 -- the cell of a string that has a last sign
 pub cell_after_last : (fs : Families) (a p : List ℕ) (x : ℕ) → cell_after fs a (p ++ x ∷ []) ≡ cell_in fs (a ++ p) x

@@ -2,7 +2,8 @@
 use Rattle.std.proofs.Common.{◌≡◌, ◌≢◌, ℕ, ◌+◌, ◌<◌, ◌≤◌, inl, inr, Bool, true, false, not, cond, ◌||◌, nat_eq, List, ◌∷◌, filter, length, Some, suc, zero, refl, sym, ◌∙◌, ap, arith}
 use Rattle.std.proofs.lemmas.Bool.{cases_Bool, cases_eq, eq-eqb, ne_eqb, both_ways}
 use Rattle.std.specs.List.{list_any, range_with_len}
-use Rattle.pg_types.specs.Placement.{Family, family_at, with_one_sign}
+use Rattle.pg_types.specs.Placement.{Family, family_at}
+use Rattle.pg_types.specs.Inside.PlacementSteps.{with_one_sign}
 use Rattle.pg_cells.specs.Inside.store.CellRows.{Row, sign_at}
 use Rattle.pg_cells.specs.Inside.linked.ValuedFamilies.{Trie}
 use Rattle.pg_cells.specs.Inside.families.Layouts.{IsTrie, signs_at_base}

@@ -9,7 +9,8 @@ use Rattle.std.specs.Cmp.{nat_cmp_is}
 use Rattle.std.specs.List.{list_any, range_with_len}
 use Rattle.std.specs.FinMap.{find, is_sorted}
 use Rattle.std.specs.FinMap.Entries.{below_all}
-use Rattle.pg_types.specs.Placement.{Family, family_at, root, taken_count}
+use Rattle.pg_types.specs.Placement.{Family, family_at, root}
+use Rattle.pg_types.specs.Inside.PlacementSteps.{taken_count}
 use Rattle.pg_types.specs.Inside.Placing.{cell_after, cell_of}
 use Rattle.pg_cells.specs.Inside.store.CellRows.{Row, sign_at, base_at}
 use Rattle.pg_cells.specs.Inside.store.Writes.{SetsBase}

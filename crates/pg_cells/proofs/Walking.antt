@@ -1,19 +1,19 @@
 -- Laws of walks: where a string has no cell, and what entering a sign leaves of the values.
-use Rattle.std.proofs.Common.{◌≡◌, ◌≢◌, ℕ, ◌+◌, ◌-◌, ◌<◌, inl, inr, cond, nat_eq, List, [], ◌∷◌, ◌++◌, length, take, drop, get_or, Option, None, Some, refl, sym, ◌∙◌, ap, subst, arith}
+use Rattle.std.proofs.Common.{◌≡◌, ◌≢◌, ℕ, ◌+◌, ◌-◌, ◌<◌, inl, inr, cond, nat_eq, List, [], ◌∷◌, ◌++◌, length, take, drop, get_or, Option, None, Some, refl, sym, ◌∙◌, ap, arith}
 use Rattle.std.proofs.lemmas.Bool.{cases_eq, eq-eqb, ne_eqb}
 use Rattle.std.proofs.lemmas.List.{append_assoc, take_more, drop_more, take-append-drop, append-nil, length-take}
 use Rattle.std.specs.List.{list_any}
 use Rattle.std.specs.Option.{option_map}
 use Rattle.std.specs.FinMap.{find, put}
-use Rattle.pg_types.specs.Placement.{Family, Families, family_at, cell_in, base_of, with_sign, enter_after}
-use Rattle.pg_types.specs.Inside.PlacementSteps.{enter_by}
+use Rattle.pg_types.specs.Placement.{Family, Families, family_at, base_of, with_sign}
+use Rattle.pg_types.specs.Inside.PlacementSteps.{enter_after, enter_by}
 use Rattle.pg_types.specs.Inside.Placing.{cell_of}
 use Rattle.pg_cells.specs.Inside.linked.ValuedFamilies.{ValuedFamilies}
 use Rattle.pg_cells.specs.Inside.linked.AreValuedFamilies.{AreValuedFamilies}
 use Rattle.pg_cells.specs.Inside.linked.Walks.{EndsBefore, NeedsNoCell, StepsBy, Steps, AddsBlanks}
 use Rattle.pg_cells.proofs.StringMaps.{order, equal_or_not, find_put_same, find_put_other}
-use Rattle.pg_cells.specs.Inside.families.Searches.{search_start}
 use Rattle.pg_cells.proofs.PlacementLaws.{cell_of_last}
+use Rattle.pg_cells.proofs.SignLaws.{sign_stays}
 
 -- where there is no family, it has no sign
 no_family : (o : Option Family) (x : ℕ) → option_map (λ f. f.base) o ≡ None
@@ -28,47 +28,38 @@ childless fs q x e = cell_of_last fs q x ∙ no_family (family_at fs q) x e
 pub way_more : (w : List ℕ) (k : ℕ) → k < length w → take (k + 1) w ≡ take k w ++ get_or w k 0 ∷ []
 way_more w k lt = take_more w k 0 lt
 
--- a sign in the family of a string, which is new where no string has its cell
-abbrev pub entered : ℕ → ℕ → Families → List ℕ → ℕ → Families
-entered few n fs p s = elim (cell_in fs p s) [ Some cell ↦ fs | None ↦ with_sign (search_start few n) fs p s ]
-
 -- the last sign of a string is entered last
-enter_after_last : (few n : ℕ) (fs : Families) (a q : List ℕ) (s : ℕ) → enter_after (search_start few n) fs a (q ++ s ∷ []) ≡ entered few n (enter_after (search_start few n) fs a q) (a ++ q) s
-enter_after_last few n fs a [] s = ap (λ p. entered few n fs p s) (sym (append-nil a))
-enter_after_last few n fs a (t ∷ q) s =
-    enter_after_last few n (entered few n fs a t) (a ++ t ∷ []) q s
-    ∙ ap (λ p. entered few n (enter_after (search_start few n) (entered few n fs a t) (a ++ t ∷ []) q) p s) (append_assoc a (t ∷ []) q)
+enter_after_last : (n : ℕ) (fs : Families) (a q : List ℕ) (s : ℕ) → enter_after n fs a (q ++ s ∷ []) ≡ with_sign n (enter_after n fs a q) (a ++ q) s
+enter_after_last n fs a [] s = ap (λ p. with_sign n fs p s) (sym (append-nil a))
+enter_after_last n fs a (t ∷ q) s =
+    enter_after_last n (with_sign n fs a t) (a ++ t ∷ []) q s
+    ∙ ap (λ p. with_sign n (enter_after n (with_sign n fs a t) (a ++ t ∷ []) q) p s) (append_assoc a (t ∷ []) q)
 
-enter_last : (few n : ℕ) (fs : Families) (w : List ℕ) (s : ℕ) → 0 < length w → enter_by (search_start few n) fs (w ++ s ∷ []) ≡ entered few n (enter_by (search_start few n) fs w) w s
-enter_last few n fs [] s some = absurd (omega arith)
-enter_last few n fs (t ∷ q) s some = enter_after_last few n fs (t ∷ []) q s
-
--- where the string has its cell, to enter its last sign changes nothing
-stays : (few n : ℕ) (fs : Families) (p : List ℕ) (s cell : ℕ) → cell_of fs (p ++ s ∷ []) ≡ Some cell → entered few n fs p s ≡ fs
-stays few n fs p s cell there = ap (λ o. elim o as (λ _. Families) [ Some c ↦ fs | None ↦ with_sign (search_start few n) fs p s ]) (sym (cell_of_last fs p s) ∙ there)
+enter_last : (n : ℕ) (fs : Families) (w : List ℕ) (s : ℕ) → 0 < length w → enter_by n fs (w ++ s ∷ []) ≡ with_sign n (enter_by n fs w) w s
+enter_last n fs [] s some = absurd (omega arith)
+enter_last n fs (t ∷ q) s some = enter_after_last n fs (t ∷ []) q s
 
 -- the first sign of a string is known
-pub first_known : (few n : ℕ) (fs : Families) (w : List ℕ) → 0 < length w → NeedsNoCell few n fs w 1
-first_known few n fs [] some = absurd (omega arith)
-first_known few n fs (s ∷ q) some = record { front = refl; rest = refl }
+pub first_known : (n : ℕ) (fs : Families) (w : List ℕ) → 0 < length w → NeedsNoCell n fs w 1
+first_known n fs [] some = absurd (omega arith)
+first_known n fs (s ∷ q) some = record { front = refl; rest = refl }
 
--- and one more, where there is a cell
-pub more_known : (few n : ℕ) (fs : Families) (w : List ℕ) (k cell : ℕ) → 0 < k → k < length w → cell_of fs (take k w ++ get_or w k 0 ∷ []) ≡ Some cell
-    → NeedsNoCell few n fs w k → NeedsNoCell few n fs w (k + 1)
-more_known few n fs w k cell up lt there known =
+-- and one more, where it changes nothing
+pub more_known : (n : ℕ) (fs : Families) (w : List ℕ) (k : ℕ) → 0 < k → k < length w → with_sign n fs (take k w) (get_or w k 0) ≡ fs → NeedsNoCell n fs w k
+    → NeedsNoCell n fs w (k + 1)
+more_known n fs w k up lt same known =
     let p = take k w in
     let s = get_or w k 0 in
-    let same = stays few n fs p s cell there in
     record {
       front =
           sym same
-          ∙ ap (λ g. entered few n g p s) known.front
-          ∙ sym (enter_last few n fs p s (omega (arith, length-take k w)))
-          ∙ sym (ap (enter_by (search_start few n) fs) (way_more w k lt));
+          ∙ ap (λ g. with_sign n g p s) known.front
+          ∙ sym (enter_last n fs p s (omega (arith, length-take k w)))
+          ∙ sym (ap (enter_by n fs) (way_more w k lt));
       rest =
-          ap (λ l. enter_after (search_start few n) fs l (drop (k + 1) w)) (way_more w k lt)
-          ∙ sym (ap (λ g. enter_after (search_start few n) g (p ++ s ∷ []) (drop (k + 1) w)) same)
-          ∙ sym (ap (enter_after (search_start few n) fs p) (drop_more w k 0 lt))
+          ap (λ l. enter_after n fs l (drop (k + 1) w)) (way_more w k lt)
+          ∙ sym (ap (λ g. enter_after n g (p ++ s ∷ []) (drop (k + 1) w)) same)
+          ∙ sym (ap (enter_after n fs p) (drop_more w k 0 lt))
           ∙ known.rest;
     }
 
@@ -143,63 +134,53 @@ module _ {V : Type 0} where
       by (Some v) is = absurd (let no : None ≡ Some v = sym none ∙ a.keeps q v is in cc)
 
   -- the families after a step
-  pub step_families : (few : ℕ) (old new : ValuedFamilies V) (q : List ℕ) (s : ℕ) (blank : V) → Steps few old new q s blank
-      → new.families ≡ (elim (cell_in old.families q s) as (λ _. Families) [ Some cell ↦ old.families | None ↦ with_sign (search_start few old.signs) old.families q s ])
-  step_families few old new q s blank steps = by (cell_of old.families (q ++ s ∷ [])) refl
+  pub step_families : (old new : ValuedFamilies V) (q : List ℕ) (s : ℕ) (blank : V) → AreValuedFamilies old → Steps old new q s blank
+      → new.families ≡ with_sign old.signs old.families q s
+  step_families old new q s blank held steps = by (cell_of old.families (q ++ s ∷ [])) refl steps
     where
-      by : (o : Option ℕ) → cell_of old.families (q ++ s ∷ []) ≡ o
-          → new.families ≡ (elim (cell_in old.families q s) as (λ _. Families) [ Some cell ↦ old.families | None ↦ with_sign (search_start few old.signs) old.families q s ])
-      by o is =
-          let there : cell_in old.families q s ≡ o = sym (cell_of_last old.families q s) ∙ is in
-          at o (subst (λ x. StepsBy few x old new q s blank) is steps)
-          ∙ sym (ap (λ x. elim x as (λ _. Families) [ Some cell ↦ old.families | None ↦ with_sign (search_start few old.signs) old.families q s ]) there)
-        where
-          at : (x : Option ℕ) → StepsBy few x old new q s blank
-              → new.families ≡ (elim x as (λ _. Families) [ Some cell ↦ old.families | None ↦ with_sign (search_start few old.signs) old.families q s ])
-          at None e = ap (λ (h : ValuedFamilies V). h.families) e
-          at (Some cell) e = ap (λ (h : ValuedFamilies V). h.families) e
+      by : (o : Option ℕ) → cell_of old.families (q ++ s ∷ []) ≡ o → StepsBy o old new q s blank → new.families ≡ with_sign old.signs old.families q s
+      by None is e = ap (λ (h : ValuedFamilies V). h.families) e
+      by (Some cell) is e = ap (λ (h : ValuedFamilies V). h.families) e ∙ sym (sign_stays old.signs old held q s cell is)
 
-  pub step_signs : (few : ℕ) (old new : ValuedFamilies V) (q : List ℕ) (s : ℕ) (blank : V) → Steps few old new q s blank → new.signs ≡ old.signs
-  step_signs few old new q s blank steps = by (cell_of old.families (q ++ s ∷ [])) steps
+  pub step_signs : (old new : ValuedFamilies V) (q : List ℕ) (s : ℕ) (blank : V) → Steps old new q s blank → new.signs ≡ old.signs
+  step_signs old new q s blank steps = by (cell_of old.families (q ++ s ∷ [])) steps
     where
-      by : (o : Option ℕ) → StepsBy few o old new q s blank → new.signs ≡ old.signs
+      by : (o : Option ℕ) → StepsBy o old new q s blank → new.signs ≡ old.signs
       by None e = ap (λ (h : ValuedFamilies V). h.signs) e
       by (Some cell) e = ap (λ (h : ValuedFamilies V). h.signs) e
 
   -- the values after a step on the way to w
-  pub step_values : (few : ℕ) (w : List ℕ) (old new : ValuedFamilies V) (k : ℕ) (q : List ℕ) (s : ℕ) (blank : V) → AreValuedFamilies old → take k w ≡ q
-      ++ s ∷ [] → Steps few old new q s blank → AddsBlanks w blank old.values new.values
-  step_values few w old new k q s blank held way steps = by (cell_of old.families (q ++ s ∷ [])) refl steps
+  pub step_values : (w : List ℕ) (old new : ValuedFamilies V) (k : ℕ) (q : List ℕ) (s : ℕ) (blank : V) → AreValuedFamilies old → take k w ≡ q
+      ++ s ∷ [] → Steps old new q s blank → AddsBlanks w blank old.values new.values
+  step_values w old new k q s blank held way steps = by (cell_of old.families (q ++ s ∷ [])) refl steps
     where
-      by : (o : Option ℕ) → cell_of old.families (q ++ s ∷ []) ≡ o → StepsBy few o old new q s blank → AddsBlanks w blank old.values new.values
+      by : (o : Option ℕ) → cell_of old.families (q ++ s ∷ []) ≡ o → StepsBy o old new q s blank → AddsBlanks w blank old.values new.values
       by None is e =
           let none : find order (take k w) old.values ≡ None = ap (λ y. find order y old.values) way ∙ sym (ap (λ y. find order y old.values) (append-nil (q ++ s ∷ [])))
           ∙ ends_before old held q s is [] in
           blank_added w blank old.values new.values k none (ap (λ (h : ValuedFamilies V). h.values) e ∙ ap (λ y. put order y blank old.values) (sym way))
       by (Some cell) is e = none_added w blank old.values new.values (ap (λ (h : ValuedFamilies V). h.values) e)
 
-  pub enter_more : (few n : ℕ) (old new : ValuedFamilies V) (w : List ℕ) (k : ℕ) (blank : V) → old.signs ≡ n → k < length w → Steps few old new (take k w) (get_or w k 0) blank
-      → enter_after (search_start few n) new.families (take (k + 1) w) (drop (k + 1) w) ≡ enter_after (search_start few n) old.families (take k w) (drop k w)
-  enter_more few n old new w k blank signs lt steps =
+  pub enter_more : (n : ℕ) (old new : ValuedFamilies V) (w : List ℕ) (k : ℕ) (blank : V) → AreValuedFamilies old → old.signs ≡ n → k < length w → Steps old new (take k w) (get_or w k 0) blank
+      → enter_after n new.families (take (k + 1) w) (drop (k + 1) w) ≡ enter_after n old.families (take k w) (drop k w)
+  enter_more n old new w k blank held signs lt steps =
       let p = take k w in
       let s = get_or w k 0 in
-      let families = step_families few old new p s blank steps in
-      ap (λ l. enter_after (search_start few n) new.families l (drop (k + 1) w)) (way_more w k lt)
-      ∙ ap (λ l. enter_after (search_start few n) l (p ++ s ∷ []) (drop (k + 1) w)) (families
-      ∙ ap (λ m. elim (cell_in old.families p s) as (λ _. Families) [ Some cell ↦ old.families | None ↦ with_sign (search_start few m) old.families p s ]) signs)
-      ∙ sym (ap (enter_after (search_start few n) old.families p) (drop_more w k 0 lt))
+      ap (λ l. enter_after n new.families l (drop (k + 1) w)) (way_more w k lt)
+      ∙ ap (λ l. enter_after n l (p ++ s ∷ []) (drop (k + 1) w)) (step_families old new p s blank held steps ∙ ap (λ m. with_sign m old.families p s) signs)
+      ∙ sym (ap (enter_after n old.families p) (drop_more w k 0 lt))
 
   -- so much of w is entered
-  pub front_more : (few n : ℕ) (fs : Families) (old new : ValuedFamilies V) (w : List ℕ) (k : ℕ) (blank : V) → old.signs ≡ n → 0 < k → k < length w → Steps few old new (take k w) (get_or w k 0) blank
-      → old.families ≡ enter_by (search_start few n) fs (take k w) → new.families ≡ enter_by (search_start few n) fs (take (k + 1) w)
-  front_more few n fs old new w k blank signs up lt steps front =
+  pub front_more : (n : ℕ) (fs : Families) (old new : ValuedFamilies V) (w : List ℕ) (k : ℕ) (blank : V) → AreValuedFamilies old → old.signs ≡ n → 0 < k → k < length w
+      → Steps old new (take k w) (get_or w k 0) blank → old.families ≡ enter_by n fs (take k w) → new.families ≡ enter_by n fs (take (k + 1) w)
+  front_more n fs old new w k blank held signs up lt steps front =
       let p = take k w in
       let s = get_or w k 0 in
-      step_families few old new p s blank steps
-      ∙ ap (λ m. entered few m old.families p s) signs
-      ∙ ap (λ g. entered few n g p s) front
-      ∙ sym (enter_last few n fs p s (omega (arith, length-take k w)))
-      ∙ sym (ap (enter_by (search_start few n) fs) (way_more w k lt))
+      step_families old new p s blank held steps
+      ∙ ap (λ m. with_sign m old.families p s) signs
+      ∙ ap (λ g. with_sign n g p s) front
+      ∙ sym (enter_last n fs p s (omega (arith, length-take k w)))
+      ∙ sym (ap (enter_by n fs) (way_more w k lt))
 
   -- the string that a refused step does not reach has no value
   pub not_reached : (values : List (List ℕ × V)) (w : List ℕ) (k : ℕ) → k < length w → EndsBefore values (take k w ++ get_or w k 0 ∷ []) → find order w values ≡ None

@@ -29,17 +29,17 @@ use pg_types::{SIGNS_MAX, Sign};
 use std::alloc::{AllocError, Global};
 use std::marker::Model;
 
-/// Families of cells, each cell with a value, placed as [`LinkedCells`](crate::LinkedCells) says.
+/// Families of cells, each cell with a value, placed as [`Cells`](crate::Cells) says.
 /// The links from sign to sign are a part of the values here.
 #[derive(Drop)]
-pub struct Placed<V: Copy, const FEW: usize> {
+pub struct Placed<V: Copy> {
     signs: u16,
     store: Store<V>,
     moving: Vec<Slot<Member<V>>>,
     ghost layout: { TrieOfRow signs store } by { TrieOfRow-prop (member_code V.code) signs store },
 }
 
-impl<V: Copy, const FEW: usize> Model for Placed<V, FEW> {
+impl<V: Copy> Model for Placed<V> {
     ghost use Rattle.pg_cells.specs.declared.store.member.Member.{Member};
     ghost use Rattle.pg_cells.specs.Inside.store.Store.{member_code};
     ghost use Rattle.pg_cells.specs.Inside.linked.ValuedFamilies.{ValuedFamilies, valued_families_code};
@@ -58,9 +58,9 @@ impl<V: Copy, const FEW: usize> Model for Placed<V, FEW> {
     ghost invariant = { λ c. AreKept c.signs c.store c.layout.0 };
 }
 
-impl<V: Copy, const FEW: usize> Placed<V, FEW> {
+impl<V: Copy> Placed<V> {
     /// The root family alone, each value `blank`.
-    pub fn new(alloc: Global, signs: u16, blank: Member<V>) -> Result<Placed<V, FEW>, AllocError>
+    pub fn new(alloc: Global, signs: u16, blank: Member<V>) -> Result<Placed<V>, AllocError>
         requires signs { IsSignCount signs }
         requires fits { FitsCell blank }
         ensures { IfOk result (λ c. IsRootAlone signs blank c) }
@@ -134,7 +134,7 @@ impl<V: Copy, const FEW: usize> Placed<V, FEW> {
     }
 
     /// Adds the sign to the family below the parent's string, with the value, and gives its cell,
-    /// as [`LinkedCells::add`](crate::LinkedCells::add) does. The members are the family's signs,
+    /// as [`Cells::add`](crate::Cells::add) does. The members are the family's signs,
     /// where the sign does not join it in place.
     pub fn add(
         &mut self,
@@ -149,7 +149,7 @@ impl<V: Copy, const FEW: usize> Placed<V, FEW> {
         requires members { (q : List ℕ) → cell_of self.old.families q ≡ Some parent →
             joins_at self.old.families q s ≡ false
             → ArePassing (has_sign self.old.families q) members.now }
-        ensures { AddsSign FEW self.old self.new parent s v result }
+        ensures { AddsSign self.old self.new parent s v result }
     {
         let slot = Slot {
             value: v,
@@ -157,15 +157,7 @@ impl<V: Copy, const FEW: usize> Placed<V, FEW> {
             sign: s,
         };
         let moving = &mut self.moving;
-        add_slot(
-            &mut self.store,
-            moving,
-            slot,
-            parent,
-            members,
-            FEW,
-            self.signs,
-        )
+        add_slot(&mut self.store, moving, slot, parent, members, self.signs)
     }
 
     /// Takes the sign away from the family below the parent's string. `is_alone` says that the

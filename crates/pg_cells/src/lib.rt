@@ -8,8 +8,8 @@
 //! - The *root* is the family of the empty prefix. Its base is 0, and it has every sign.
 //! - A sign that joins a family takes its cell. Where another family has that cell, the family
 //!   moves: it gives up its cells, and all its signs go to the least base at which they may stand.
-//!   Where the search begins depends on the number of signs, the greatest taken cell, and the
-//!   parameter FEW. A family of up to FEW signs is sought from base 1 on.
+//!   Where the search begins depends on the number of signs and the greatest taken cell. A family
+//!   of up to `FEW_SIGNS` signs is sought from base 1 on.
 //! - A *link* leads from sign to sign. A cell has the next sign of its own family, and the first
 //!   sign of the family below it. So the signs of a family are found without a look at every cell.
 //! - A *bound* of a sign is a base. Below it no base can be taken for a family with this sign,
@@ -28,5 +28,5 @@ mod linked;
 mod store;
 mod walks;
 
-pub use linked::{Cells, LinkedCells, NearCells};
+pub use linked::Cells;
 pub use walks::{enter, step};

@@ -4,7 +4,8 @@ ghost use Rattle.std.specs.FinMap.{find};
 ghost use Rattle.std.specs.Cmp.Lexicographic.{slice_cmp};
 ghost use Rattle.std.specs.Ordering.{nat_cmp};
 ghost use Rattle.pg_types.specs.Inside.Signs.{IsSignCount, IsTableSign};
-ghost use Rattle.pg_types.specs.Placement.{taken_count, top, base_of};
+ghost use Rattle.pg_types.specs.Placement.{top, base_of};
+ghost use Rattle.pg_types.specs.Inside.PlacementSteps.{taken_count};
 ghost use Rattle.pg_types.specs.Inside.Placing.{cell_of};
 ghost use Rattle.pg_cells.specs.Inside.linked.ValuedFamilies.{ValuedFamilies};
 ghost use Rattle.pg_cells.specs.Inside.linked.AreValuedFamilies.{AreValuedFamilies};
@@ -20,29 +21,20 @@ mod links;
 use crate::families::Placed;
 use crate::linked::links::{is_alone, link, list_moving, sign_after, sign_before};
 use crate::store::member::Member;
-use pg_types::{FEW_SIGNS, SIGNS_MAX, Sign};
+use pg_types::{SIGNS_MAX, Sign};
 use std::alloc::{AllocError, Global};
 use std::marker::Model;
 
-/// Families of cells, each cell with a value. The base of a family of up to `FEW` signs is sought
-/// from 1 on. For a greater one the search begins at least `FAR_BELOW` below the greatest taken
-/// cell. With `FEW` 0 it begins `NEAR_BELOW` below that cell for each family, and is short.
+/// Families of cells, each cell with a value. The base of a family of up to `FEW_SIGNS` signs is
+/// sought from 1 on. For a greater one the search begins at least `FAR_BELOW` below the greatest
+/// taken cell.
 #[derive(Drop)]
-pub struct LinkedCells<V: Copy, const FEW: usize> {
-    placed: Placed<V, FEW>,
+pub struct Cells<V: Copy> {
+    placed: Placed<V>,
     members: Vec<Sign>,
 }
 
-/// Cells whose families lie where the rule for patterns puts them.
-pub type Cells<V> = LinkedCells<V, FEW_SIGNS>;
-
-/// Cells whose families all lie near the greatest taken cell.
-pub type NearCells<V> = LinkedCells<V, NO_SIGNS>;
-
-// No family has so few signs that its base is sought from 1 on.
-const NO_SIGNS: usize = 0;
-
-impl<V: Copy, const FEW: usize> Model for LinkedCells<V, FEW> {
+impl<V: Copy> Model for Cells<V> {
     ghost use Rattle.pg_cells.specs.Inside.linked.ValuedFamilies.{ValuedFamilies, valued_families_code};
     ghost use Rattle.pg_cells.specs.Inside.linked.Links.{values_alone, AreLinks};
 
@@ -55,14 +47,14 @@ impl<V: Copy, const FEW: usize> Model for LinkedCells<V, FEW> {
     ghost invariant = { λ c. AreLinks c.placed };
 }
 
-impl<V: Copy, const FEW: usize> LinkedCells<V, FEW> {
+impl<V: Copy> Cells<V> {
     /// The root family alone, each value `blank`.
-    pub fn new(alloc: Global, signs: u16, blank: V) -> Result<LinkedCells<V, FEW>, AllocError>
+    pub fn new(alloc: Global, signs: u16, blank: V) -> Result<Cells<V>, AllocError>
         requires { IsSignCount signs }
         ensures { IfOk result (λ c. IsRootAlone signs blank c) }
     {
         let placed = Placed::new(alloc, signs, Member::alone(blank))?;
-        Ok(LinkedCells {
+        Ok(Cells {
             placed,
             members: Vec::new(alloc),
         })
@@ -168,7 +160,7 @@ impl<V: Copy, const FEW: usize> LinkedCells<V, FEW> {
     /// is as before.
     pub fn add(&mut self, parent: usize, s: Sign, v: V) -> Result<usize, AllocError>
         requires { CanTakeSign self.old.signs self.old.families parent s }
-        ensures { AddsSign FEW self.old self.new parent s v result }
+        ensures { AddsSign self.old self.new parent s v result }
     {
         let base = self.placed.child(parent);
         let before = sign_before(&self.placed, parent, base, s);
@@ -195,7 +187,7 @@ impl<V: Copy, const FEW: usize> LinkedCells<V, FEW> {
         self.remove_behind(parent, before, s);
     }
 
-    /// Takes the sign away as [`LinkedCells::remove`] does, where `before` is the sign before it in
+    /// Takes the sign away as [`Cells::remove`] does, where `before` is the sign before it in
     /// its family, 0 for none. So that one is not sought.
     pub fn remove_behind(&mut self, parent: usize, before: Sign, s: Sign)
         requires can { CanRemoveSign self.old.families parent s }

@@ -4,24 +4,19 @@ ghost use Rattle.std.specs.FinMap.{find};
 ghost use Rattle.std.specs.Cmp.Lexicographic.{slice_cmp};
 ghost use Rattle.std.specs.Ordering.{nat_cmp};
 ghost use Rattle.pg_types.specs.Inside.Signs.{IsTableSign};
-ghost use Rattle.pg_types.specs.Inside.PlacementSteps.{enter_by};
+ghost use Rattle.pg_types.specs.Placement.{enter};
 ghost use Rattle.pg_types.specs.Inside.Placing.{cell_of};
 ghost use Rattle.pg_cells.specs.Inside.linked.AreValuedFamilies.{AreValuedFamilies};
 ghost use Rattle.pg_cells.specs.Inside.linked.CellValues.{IsTaken};
-ghost use Rattle.pg_cells.specs.Inside.families.Searches.{search_start};
 ghost use Rattle.pg_cells.specs.Inside.linked.Walks.{IsAt, EndsBefore, NeedsNoCell, Steps, AddsBlanks};
 
-use crate::LinkedCells;
+use crate::Cells;
 use pg_types::Sign;
 use std::alloc::AllocError;
 
 /// Goes from a cell, or from the start for `None`, to the cell of the string with the sign added.
 /// `None` tells that no string that begins with this one has a value.
-pub fn step<V: Copy, const FEW: usize>(
-    cells: &LinkedCells<V, FEW>,
-    at: Option<usize>,
-    s: Sign,
-) -> Option<usize>
+pub fn step<V: Copy>(cells: &Cells<V>, at: Option<usize>, s: Sign) -> Option<usize>
     requires at { (q : List ℕ) × (IsAt cells.now.families at q) }
     requires sign { IsTableSign cells.now.signs s }
     ensures cell { (q : List ℕ) → IsAt cells.now.families at q
@@ -40,8 +35,8 @@ pub fn step<V: Copy, const FEW: usize>(
 }
 
 // Goes from a cell to that of its string with the sign added, which is new where no string has it.
-fn step_or_add<V: Copy, const FEW: usize>(
-    cells: &mut LinkedCells<V, FEW>,
+fn step_or_add<V: Copy>(
+    cells: &mut Cells<V>,
     parent: usize,
     s: Sign,
     blank: V,
@@ -50,7 +45,7 @@ fn step_or_add<V: Copy, const FEW: usize>(
     requires parent { IsTaken cells.old.families parent }
     requires sign { IsTableSign cells.old.signs s }
     ensures steps { (q : List ℕ) → cell_of cells.old.families q ≡ Some parent →
-        OnOk result (Steps FEW cells.old cells.new q s blank) }
+        OnOk result (Steps cells.old cells.new q s blank) }
     ensures cell { (q : List ℕ) → cell_of cells.old.families q ≡ Some parent →
         IfOk result (λ cell. cell_of cells.new.families (q ++ s ∷ []) ≡ Some cell) }
     ensures err { OnErr result (cells.new ≡ cells.old) }
@@ -66,15 +61,12 @@ fn step_or_add<V: Copy, const FEW: usize>(
 
 // How many signs the longest prefix has that has a cell, and its cell. It only reads, so the walk
 // is short.
-fn known_prefix<V: Copy, const FEW: usize>(
-    cells: &LinkedCells<V, FEW>,
-    signs: &[Sign],
-) -> (usize, usize)
+fn known_prefix<V: Copy>(cells: &Cells<V>, signs: &[Sign]) -> (usize, usize)
     requires some { 0 < length signs.now }
     requires signs { All (IsTableSign cells.now.signs) signs.now }
     ensures count { (0 < result.0) × (result.0 ≤ length signs.now) }
     ensures cell { cell_of cells.now.families (take result.0 signs.now) ≡ Some result.1 }
-    ensures known { NeedsNoCell FEW cells.now.signs cells.now.families signs.now result.0 }
+    ensures known { NeedsNoCell cells.now.signs cells.now.families signs.now result.0 }
     ensures held { AreValuedFamilies cells.now }
 {
     let mut cell = cells.root_cell(signs[0]);
@@ -92,20 +84,16 @@ fn known_prefix<V: Copy, const FEW: usize>(
 ///
 /// After an error a shorter prefix of the string is entered, and the rest is not. There is no error
 /// where the string has its cell already.
-pub fn enter<V: Copy, const FEW: usize>(
-    cells: &mut LinkedCells<V, FEW>,
-    signs: &[Sign],
-    blank: V,
-) -> Result<usize, AllocError>
+pub fn enter<V: Copy>(cells: &mut Cells<V>, signs: &[Sign], blank: V) -> Result<usize, AllocError>
     requires some { 0 < length signs.now }
     requires signs { All (IsTableSign cells.old.signs) signs.now }
     ensures cell { IfOk result (λ cell. cell_of cells.new.families signs.now ≡ Some cell) }
     ensures families { OnOk result
         (cells.new.families
-        ≡ enter_by (search_start FEW cells.old.signs) cells.old.families signs.now) }
+        ≡ enter cells.old.signs cells.old.families signs.now) }
     ensures part { OnErr result ((k : ℕ) × (k < length signs.now)
         × (cells.new.families
-        ≡ enter_by (search_start FEW cells.old.signs) cells.old.families (take k signs.now))) }
+        ≡ enter cells.old.signs cells.old.families (take k signs.now))) }
     ensures blanks { AddsBlanks signs.now blank cells.old.values cells.new.values }
     ensures held { AreValuedFamilies cells.new }
     ensures signs { cells.new.signs ≡ cells.old.signs }

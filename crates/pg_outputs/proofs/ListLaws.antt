@@ -4,9 +4,17 @@ use Rattle.std.proofs.lemmas.List.{get_or_append_left, get_or_push, length_push,
 use Rattle.std.proofs.lemmas.List.Sums.{fold-append}
 use Rattle.std.proofs.lemmas.Option.{slice_get_within, get_or_from_slice_get, slice_get_cases}
 use Rattle.pg_outputs.specs.declared.records.Record.{Record}
-use Rattle.pg_outputs.specs.Lists.{with_record, lists, list_of}
+use Rattle.pg_outputs.specs.Lists.{list_of}
 use Rattle.pg_outputs.specs.Inside.Heads.{Grows, OneHeadEach}
 use Rattle.pg_outputs.specs.Inside.Records.{AreShared}
+
+-- the lists by their heads, with that of one more record
+abbrev with_record : List (List (ℕ × ℕ)) → Record → List (List (ℕ × ℕ))
+with_record lists r = lists ++ ((r.value, r.dot) ∷ get_or lists r.next []) ∷ []
+
+-- the lists of the heads 0, 1, 2 and so on
+abbrev pub lists : List Record → List (List (ℕ × ℕ))
+lists records = fold with_record ([] ∷ []) records
 
 -- each step adds one list
 length-fold_lists : (ls : List (List (ℕ × ℕ))) (rs : List Record) → length (fold with_record ls rs) ≡ length ls + length rs

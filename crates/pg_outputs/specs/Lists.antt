@@ -3,14 +3,7 @@
 use Rattle.std.specs.Prelude.{ℕ, List, [], ◌∷◌, ◌++◌, fold, get_or}
 use Rattle.pg_outputs.specs.declared.records.Record.{Record}
 
--- the lists by their heads, with that of one more record
-abbrev pub with_record : List (List (ℕ × ℕ)) → Record → List (List (ℕ × ℕ))
-with_record lists r = lists ++ ((r.value, r.dot) ∷ get_or lists r.next []) ∷ []
-
--- the lists of the heads 0, 1, 2 and so on
-abbrev pub lists : List Record → List (List (ℕ × ℕ))
-lists records = fold with_record ([] ∷ []) records
-
--- the list that a head stands for
+-- the list that a head stands for: record by record, one list more is known
 unfoldable pub list_of : List Record → ℕ → List (ℕ × ℕ)
-list_of records head = get_or (lists records) head []
+list_of records head = get_or (fold (λ lists r. lists ++ ((r.value, r.dot)
+    ∷ get_or lists r.next []) ∷ []) ([] ∷ []) records) head []

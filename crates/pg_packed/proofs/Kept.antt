@@ -1,17 +1,22 @@
 -- A level's end changes nothing of families whose strings are those of the patterns.
 use Rattle.std.proofs.Common.{◌≡◌, ℕ, suc, zero, ◌+◌, ◌≤◌, Bool, true, false, cond, not, ◌&&◌, ◌||◌, List, [], ◌∷◌, ◌++◌, length, map, fold, Option, Some, None, nat_eq, nat_lt, nat_le, nat_cmp, sym, refl, ap, subst, ◌∙◌, arith}
 use Rattle.std.proofs.lemmas.Bool.{le-leb, eq-eqb, and_from, or_left, or_right}
-use Rattle.std.proofs.lemmas.List.{append_assoc}
+use Rattle.std.proofs.lemmas.List.{append_assoc, length-append}
+use Rattle.std.proofs.lemmas.List.Folds.{list_all-append}
 use Rattle.std.specs.declared.cmp.Ordering.TheVariants.{Less, Equal, Greater}
 use Rattle.std.specs.Ordering.{is_eq, eq_by_cmp}
 use Rattle.std.specs.Cmp.Lexicographic.{slice_cmp}
 use Rattle.std.specs.FinMap.{nat_cmp-IsAntisymmetric, slice_cmp-IsAntisymmetric}
 use Rattle.std.specs.FinMap.Entries.{put, find, by_order}
-use Rattle.std.specs.List.{filter, list_all, list_any, range_with_len, starts_with}
-use Rattle.pg_types.specs.Placement.{Family, Families, keeps_cell, kept_families, with_placed_family, with_one_sign, with_sign, family_at, is_used, cell_in, enter_after, enter, root}
-use Rattle.pg_types.specs.Inside.PlacementSteps.{lowest_base, least_base, without_family}
+use Rattle.std.specs.Option.{option_map_or}
+use Rattle.std.specs.Prelude.{◌-◌, max, unwrap_or, if◌then◌else◌}
+use Rattle.std.specs.List.{filter, find as first_of, flat_map, list_all, list_any, range_with_len, starts_with}
+use Rattle.pg_types.specs.declared.limits.TheConstants.{FEW_SIGNS, FAR_BELOW}
+use Rattle.pg_types.specs.Placement.{Family, Families, fits_at, keeps_cell, kept_families, with_sign, family_at, enter, root, top}
+use Rattle.pg_types.specs.Inside.PlacementSteps.{enter_after, enter_by, kept_family, without_family}
 use Rattle.pg_packed.specs.Inside.Starts.{pattern_families}
 use Rattle.pg_types.proofs.EntryLists.{find_good, all_put}
+use Rattle.pg_types.proofs.PlacementLaws.{enter_is, kept_is}
 use Rattle.pg_types.proofs.BoolFacts.{and_first, and_second, all_weaker, some_is}
 use Rattle.pg_patterns.specs.Values.{Patterns}
 
@@ -67,21 +72,12 @@ module _ (strings : List (List ℕ)) where
   kept_whole p base [] left is some = cc
   kept_whole p base (s ∷ signs) left is some = ap (λ (l : List ℕ). elim l as (λ _. Families) [ [] ↦ [] | x ∷ xs ↦ (p, record { base = base; signs = x ∷ xs }) ∷ [] ]) is
 
-  kept_same : (fs : Families) → list_all stays fs ≡ true → kept_families strings fs ≡ fs
+  kept_same : (fs : Families) → list_all stays fs ≡ true → flat_map (kept_family (keeps_cell strings)) fs ≡ fs
   kept_same [] all = refl
   kept_same (e ∷ es) all =
       let here : stays e ≡ true = and_first _ _ all in
-      ap (λ x. x ++ kept_families strings es) (kept_whole e.0 e.1.base e.1.signs _ (filter_all (λ s. keeps_cell strings (e.0 ++ s ∷ [])) e.1.signs (and_second _ _ here)) (and_first _ _ here))
+      ap (λ x. x ++ flat_map (kept_family (keeps_cell strings)) es) (kept_whole e.0 e.1.base e.1.signs _ (filter_all (λ s. keeps_cell strings (e.0 ++ s ∷ [])) e.1.signs (and_second _ _ here)) (and_first _ _ here))
       ∙ ap (λ r. e ∷ r) (kept_same es (and_second _ _ all))
-
-  one_sign : (good : ℕ → Bool) (s : ℕ) (xs : List ℕ) → good s ≡ true → list_all good xs ≡ true → list_all good (with_one_sign s xs) ≡ true
-  one_sign good s [] new all = and_from _ _ new refl
-  one_sign good s (x ∷ xs) new all = by_tests (one_sign good s xs new (and_second _ _ all)) (nat_lt s x) (nat_eq s x)
-    where
-      by_tests : list_all good (with_one_sign s xs) ≡ true → (a b : Bool) → list_all good (cond a (s ∷ x ∷ xs) (cond b (x ∷ xs) (x ∷ with_one_sign s xs))) ≡ true
-      by_tests rest true b = and_from _ _ new all
-      by_tests rest false true = all
-      by_tests rest false false = and_from _ _ (and_first _ _ all) rest
 
   -- a string with which some string begins keeps its cell
   keeps_begun : (q : List ℕ) → begins_one q ≡ true → keeps_cell strings q ≡ true
@@ -90,65 +86,49 @@ module _ (strings : List (List ℕ)) where
   family_stays : (p : List ℕ) (base : ℕ) (signs : List ℕ) → 1 ≤ length signs → list_all (λ s. keeps_cell strings (p ++ s ∷ [])) signs ≡ true → stays (p, record { base = base; signs = signs }) ≡ true
   family_stays p base signs some all = and_from _ _ (le-leb 1 (length signs) some) all
 
-  one_more : (s : ℕ) (xs : List ℕ) → 1 ≤ length (with_one_sign s xs)
-  one_more s [] = omega arith
-  one_more s (x ∷ xs) = by_tests (nat_lt s x) (nat_eq s x)
-    where
-      by_tests : (a b : Bool) → 1 ≤ length (cond a (s ∷ x ∷ xs) (cond b (x ∷ xs) (x ∷ with_one_sign s xs)))
-      by_tests true b = omega arith
-      by_tests false true = omega arith
-      by_tests false false = omega arith
-
-  placed_stays : (lowest : ℕ → ℕ → ℕ) (fs : Families) (p signs : List ℕ) → 1 ≤ length signs → list_all (λ s. keeps_cell strings (p ++ s ∷ [])) signs ≡ true
-      → list_all stays fs ≡ true → list_all stays (with_placed_family lowest fs p signs) ≡ true
-  placed_stays lowest fs p signs some keeps all =
-      let base : ℕ = least_base lowest fs signs in
-      all_put (slice_cmp nat_cmp) stays same_string p (record { base = base; signs = signs }) fs (family_stays p base signs some keeps) all
-
   without_stays : (fs : Families) (p : List ℕ) → list_all stays fs ≡ true → list_all stays (without_family fs p) ≡ true
   without_stays fs p all = all_filter stays (λ e. not (eq_by_cmp (slice_cmp nat_cmp) p e.0)) fs all
 
-  sign_stays : (lowest : ℕ → ℕ → ℕ) (fs : Families) (p : List ℕ) (s : ℕ) → keeps_cell strings (p ++ s ∷ []) ≡ true → list_all stays fs ≡ true → list_all stays (with_sign lowest fs p s) ≡ true
+  -- the signs of the family of a prefix, and with one more
+  signs_stay : (fs : Families) (p : List ℕ) → list_all stays fs ≡ true → (o : Option Family) → family_at fs p ≡ o → list_all (λ s. keeps_cell strings (p ++ s ∷ [])) (option_map_or (λ f. f.signs) o []) ≡ true
+  signs_stay fs p all None is = refl
+  signs_stay fs p all (Some f) is = and_second _ _ (find_good (slice_cmp nat_cmp) stays same_string p f fs is all)
+
+  one_sign : (good : ℕ → Bool) (s : ℕ) (xs : List ℕ) → good s ≡ true → list_all good xs ≡ true → list_all good (filter (λ x. nat_lt x s) xs ++ s ∷ filter (nat_lt s) xs) ≡ true
+  one_sign good s xs new all =
+      list_all-append good (filter (λ x. nat_lt x s) xs) (s ∷ filter (nat_lt s) xs)
+      ∙ and_from _ _ (all_filter good (λ x. nat_lt x s) xs all) (and_from _ _ new (all_filter good (nat_lt s) xs all))
+
+  one_more : (s : ℕ) (xs : List ℕ) → 1 ≤ length (filter (λ x. nat_lt x s) xs ++ s ∷ filter (nat_lt s) xs)
+  one_more s xs = omega (arith, length-append (filter (λ x. nat_lt x s) xs) (s ∷ filter (nat_lt s) xs))
+
+  sign_stays : (n : ℕ) (fs : Families) (p : List ℕ) (s : ℕ) → keeps_cell strings (p ++ s ∷ []) ≡ true → list_all stays fs ≡ true → list_all stays (with_sign n fs p s) ≡ true
   unfolding with_sign
-  sign_stays lowest fs p s new all = by_family (family_at fs p) refl
-    where
-      by_use : (f : Family) → stays (p, f) ≡ true → (b : Bool)
-          → list_all stays (elim b [
-            | false ↦ put (slice_cmp nat_cmp) p (record { base = f.base; signs = with_one_sign s f.signs }) fs
-            | true ↦ with_placed_family lowest
-                (without_family fs p) p (with_one_sign s f.signs)
-          ]) ≡ true
-      by_use f here false = all_put (slice_cmp nat_cmp) stays same_string p (record { base = f.base; signs = with_one_sign s f.signs }) fs
-          (family_stays p f.base (with_one_sign s f.signs) (one_more s f.signs) (one_sign (λ x. keeps_cell strings (p ++ x ∷ [])) s f.signs new (and_second _ _ here))) all
-      by_use f here true = placed_stays lowest (without_family fs p) p (with_one_sign s f.signs) (one_more s f.signs)
-          (one_sign (λ x. keeps_cell strings (p ++ x ∷ [])) s f.signs new (and_second _ _ here)) (without_stays fs p all)
+  sign_stays n fs p s new all =
+      let before = option_map_or (λ (f : Family). f.signs) (family_at fs p) [] in
+      let signs = filter (λ x. nat_lt x s) before ++ s ∷ filter (nat_lt s) before in
+      let others = without_family fs p in
+      let low = if nat_le (length signs) FEW_SIGNS then 1 else max 1 (top others - max FAR_BELOW n) in
+      let bases = option_map_or (λ (f : Family). f.base ∷ []) (family_at fs p) [] ++ range_with_len low (top others + 1) in
+      let base = unwrap_or (first_of (fits_at others signs) bases) 0 in
+      all_put (slice_cmp nat_cmp) stays same_string p (record { base = base; signs = signs }) others
+      (family_stays p base signs (one_more s before)
+      (one_sign (λ x. keeps_cell strings (p ++ x ∷ [])) s before new (signs_stay fs p all (family_at fs p) refl))) (without_stays fs p all)
 
-      by_family : (o : Option Family) → family_at fs p ≡ o
-          → list_all stays (elim o [
-            | None ↦ with_placed_family lowest fs p (s ∷ [])
-            | Some f ↦ elim (is_used fs (f.base + s)) [
-              | false ↦ put (slice_cmp nat_cmp) p (record { base = f.base; signs = with_one_sign s f.signs }) fs
-              | true ↦ with_placed_family lowest (without_family fs p) p (with_one_sign s f.signs)
-            ]
-          ]) ≡ true
-      by_family None is = placed_stays lowest fs p (s ∷ []) (omega arith) (and_from _ _ new refl) all
-      by_family (Some f) is = by_use f (find_good (slice_cmp nat_cmp) stays same_string p f fs is all) (is_used fs (f.base + s))
-
-  after_stays : (lowest : ℕ → ℕ → ℕ) (fs : Families) (p q : List ℕ) → begins_one (p ++ q) ≡ true → list_all stays fs ≡ true → list_all stays (enter_after lowest fs p q) ≡ true
-  after_stays lowest fs p [] begun all = all
-  after_stays lowest fs p (s ∷ q) begun all =
+  after_stays : (n : ℕ) (fs : Families) (p q : List ℕ) → begins_one (p ++ q) ≡ true → list_all stays fs ≡ true → list_all stays (enter_after n fs p q) ≡ true
+  after_stays n fs p [] begun all = all
+  after_stays n fs p (s ∷ q) begun all =
       let more : begins_one ((p ++ s ∷ []) ++ q) ≡ true = subst (λ x. begins_one x ≡ true) (sym (append_assoc p (s ∷ []) q)) begun in
       let new : keeps_cell strings (p ++ s ∷ []) ≡ true = keeps_begun (p ++ s ∷ [])
       (any_weaker (λ t. starts_with nat_eq t ((p ++ s ∷ []) ++ q)) (λ t. starts_with nat_eq t (p ++ s ∷ [])) strings (λ t. starts_front t (p ++ s ∷ []) q) more) in
-      after_stays lowest (elim (cell_in fs p s) as (λ _. Families) [ Some cell ↦ fs | None ↦ with_sign lowest fs p s ]) (p ++ s ∷ []) q more (by_cell new (cell_in fs p s))
-    where
-      by_cell : keeps_cell strings (p ++ s ∷ []) ≡ true → (o : Option ℕ) → list_all stays (elim o [ Some cell ↦ fs | None ↦ with_sign lowest fs p s ]) ≡ true
-      by_cell new (Some cell) = all
-      by_cell new None = sign_stays lowest fs p s new all
+      after_stays n (with_sign n fs p s) (p ++ s ∷ []) q more (sign_stays n fs p s new all)
+
+  by_stays : (n : ℕ) (fs : Families) (q : List ℕ) → begins_one q ≡ true → list_all stays fs ≡ true → list_all stays (enter_by n fs q) ≡ true
+  by_stays n fs [] begun all = all
+  by_stays n fs (s ∷ q) begun all = after_stays n fs (s ∷ []) q begun all
 
   enter_stays : (n : ℕ) (fs : Families) (q : List ℕ) → begins_one q ≡ true → list_all stays fs ≡ true → list_all stays (enter n fs q) ≡ true
-  enter_stays n fs [] begun all = all
-  enter_stays n fs (s ∷ q) begun all = after_stays (lowest_base n) fs (s ∷ []) q begun all
+  enter_stays n fs q begun all = ap (list_all stays) (enter_is n fs q) ∙ by_stays n fs q begun all
 
   all_enter : (n : ℕ) (fs : Families) (es : List ((List ℕ × ℕ) × ℕ)) → list_all (λ e. begins_one e.0.0) es ≡ true → list_all stays fs ≡ true
       → list_all stays (fold (enter n) fs (map (λ (e : (List ℕ × ℕ) × ℕ). e.0.0) es)) ≡ true
@@ -175,4 +155,4 @@ all_there (e ∷ es) =
 pub kept_entered : (n : ℕ) (P : Patterns) → 1 ≤ n → kept_families (map (λ e. e.0.0) P) (pattern_families n P) ≡ pattern_families n P
 kept_entered n P some =
     let strings : List (List ℕ) = map (λ e. e.0.0) P in
-    kept_same strings (pattern_families n P) (all_enter strings n (root n) P (all_there P) (root_stays strings n some))
+    kept_is strings (pattern_families n P) ∙ kept_same strings (pattern_families n P) (all_enter strings n (root n) P (all_there P) (root_stays strings n some))

@@ -3,7 +3,8 @@ ghost use Rattle.std.specs.Prelude.{◌≡◌, ℕ, ◌+◌, ◌<◌, ◌≤◌,
 ghost use Rattle.std.specs.FinMap.Entries.{put};
 ghost use Rattle.pg_types.specs.declared.limits.TheConstants.{LEVEL_MAX, PATTERN_SIGNS_MAX};
 ghost use Rattle.pg_types.specs.Inside.Signs.{IsSignCount, IsTableSign, SignsWithin};
-ghost use Rattle.pg_types.specs.Placement.{root, enter, kept_families, taken_count, top};
+ghost use Rattle.pg_types.specs.Placement.{root, enter, kept_families, top};
+ghost use Rattle.pg_types.specs.Inside.PlacementSteps.{taken_count};
 ghost use Rattle.pg_types.specs.Inside.Placing.{cell_of};
 ghost use Rattle.pg_types.specs.Tails.{tails};
 ghost use Rattle.pg_patterns.specs.DottedSigns.{dotted_cmp};

@@ -5,4 +5,3 @@ pub mod Moves
 pub mod OneTrie
 pub mod Removing
 pub mod Root
-pub mod Searches

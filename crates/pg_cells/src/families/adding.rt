@@ -1,7 +1,7 @@
 //! A sign is added to a family, in its place or at another base.
 ghost use Rattle.std.specs.Prelude.{◌≡◌, ℕ, ◌+◌, ◌<◌, ◌≤◌, ◌∷◌, ◌++◌, [], List, Some, nat_lt, nat_eq, ◌&&◌, IfOk, OnOk, OnErr};
+ghost use Rattle.pg_types.specs.Inside.PlacementSteps.{with_new_sign};
 ghost use Rattle.pg_types.specs.Inside.Signs.{IsTableSign};
-ghost use Rattle.pg_types.specs.Placement.{with_sign};
 ghost use Rattle.pg_types.specs.Inside.Placing.{cell_of};
 ghost use Rattle.pg_cells.specs.Inside.linked.Members.{ArePositive};
 ghost use Rattle.pg_cells.specs.Inside.linked.ValuedFamilies.{Trie};
@@ -10,7 +10,6 @@ ghost use Rattle.pg_cells.specs.declared.store.cell.TheConstants.{CELLS_END};
 ghost use Rattle.pg_cells.specs.Inside.store.CellRows.{FitsCell, sign_at};
 ghost use Rattle.pg_cells.specs.Inside.store.Store.{Extends, IsRow};
 ghost use Rattle.pg_cells.specs.Inside.families.Layouts.{IsTrie};
-ghost use Rattle.pg_cells.specs.Inside.families.Searches.{search_start};
 ghost use Rattle.pg_cells.specs.Inside.families.Adding.{CanAdd, with_sign_below};
 
 use crate::families::moves::collect;
@@ -38,7 +37,6 @@ pub fn add_slot<V: Copy>(
     slot: Slot<Member<V>>,
     parent: usize,
     members: &[Sign],
-    few: usize,
     signs: u16,
 ) -> Result<usize, AllocError>
     requires can { (t : Trie (MemberOf V)) × (q : List ℕ)
@@ -50,10 +48,10 @@ pub fn add_slot<V: Copy>(
     requires positive { ArePositive members.now }
     ensures trie { (t : Trie (MemberOf V)) (q : List ℕ) →
         CanAdd signs store.old t q parent slot.sign members.now →
-        OnOk result (IsTrie signs store.new (with_sign_below few signs t q slot.sign slot.value)) }
+        OnOk result (IsTrie signs store.new (with_sign_below signs t q slot.sign slot.value)) }
     ensures cell { (t : Trie (MemberOf V)) (q : List ℕ) →
         CanAdd signs store.old t q parent slot.sign members.now →
-        IfOk result (λ cell. cell_of (with_sign (search_start few signs) t.families q slot.sign)
+        IfOk result (λ cell. cell_of (with_new_sign signs t.families q slot.sign)
         (q ++ slot.sign ∷ []) ≡ Some cell) }
     ensures err { OnErr result (Extends store.old store.new) }
     ensures row { IsRow store.new }
@@ -68,6 +66,6 @@ pub fn add_slot<V: Copy>(
     }
     collect(store, base, members, moving)?;
     let slots = moving.as_slice();
-    let placed = place_family(store, slots, slot, parent, base, few, signs);
+    let placed = place_family(store, slots, slot, parent, base, signs);
     Ok(placed + slot.sign as usize)
 }

@@ -1,10 +1,10 @@
 //! A family is put at the least base that fits.
 ghost use Rattle.std.specs.Prelude.{◌≡◌, ℕ, ◌+◌, ◌<◌, ◌≤◌, max, false, ◌∷◌, length};
+ghost use Rattle.pg_types.specs.Inside.PlacementSteps.{lowest_base};
 ghost use Rattle.pg_types.specs.Inside.Placing.{IsLeast};
 ghost use Rattle.pg_cells.specs.declared.store.cell.TheConstants.{CELLS_END};
 ghost use Rattle.pg_cells.specs.Inside.store.Fit.{HasSpace, fits_row, slot_signs};
 ghost use Rattle.pg_cells.specs.Inside.store.CellRows.{FitsCell};
-ghost use Rattle.pg_cells.specs.Inside.families.Searches.{far_from_top, search_start};
 ghost use Rattle.pg_cells.specs.Inside.families.Moves.{AllFit, DropsBase, MovesFamily, CanPlace};
 ghost use Rattle.pg_cells.specs.Inside.store.Store.{IsRow};
 
@@ -12,33 +12,18 @@ use crate::families::moves::{give_up, put};
 use crate::store::Store;
 use crate::store::fit::Slot;
 use crate::store::member::Member;
-use pg_types::{FAR_BELOW, SIGNS_MAX, Sign};
-
-/// Where no family is placed from base 1 on, each search begins this far below the greatest taken
-/// cell. The search is short then, and most free cells get taken all the same.
-pub const NEAR_BELOW: usize = 16;
-
-// How far below the top the search for a base begins.
-fn far_from_top(few: usize, signs: u16) -> usize
-    ensures { result ≡ far_from_top few signs }
-{
-    if few == 0 {
-        NEAR_BELOW
-    } else {
-        FAR_BELOW.max(signs as usize)
-    }
-}
+use pg_types::{FAR_BELOW, FEW_SIGNS, SIGNS_MAX, Sign};
 
 // The lowest base that is tried.
-fn lowest_base(few: usize, signs: u16, count: usize, top: usize) -> usize
-    ensures is { result ≡ search_start few signs count top }
+fn lowest_base(signs: u16, count: usize, top: usize) -> usize
+    ensures is { result ≡ lowest_base signs count top }
     ensures positive { 0 < result }
     ensures within { result ≤ max 1 top }
 {
-    if count <= few {
+    if count <= FEW_SIGNS {
         1
     } else {
-        top.saturating_sub(far_from_top(few, signs)).max(1)
+        top.saturating_sub(FAR_BELOW.max(signs as usize)).max(1)
     }
 }
 
@@ -110,7 +95,6 @@ pub fn place_family<V: Copy>(
     slot: Slot<Member<V>>,
     parent: usize,
     was: usize,
-    few: usize,
     signs: u16,
 ) -> usize
     requires can { CanPlace signs store.old was slots.now slot parent }
@@ -119,14 +103,14 @@ pub fn place_family<V: Copy>(
     requires signs { signs ≤ SIGNS_MAX }
     requires fits { FitsCell slot.value }
     requires all_fit { AllFit slots.now }
-    ensures moved { MovesFamily few signs store.old store.new was result slots.now slot parent }
+    ensures moved { MovesFamily signs store.old store.new was result slots.now slot parent }
     ensures row { IsRow store.new }
 {
     let sought = store.sought_from(was);
     give_up(store, was, slots);
     drop_base(store, was);
     let top = store.top();
-    let low = lowest_base(few, signs, slots.len() + 1, top);
+    let low = lowest_base(signs, slots.len() + 1, top);
     let tried = tried_up_to(was, sought, low);
     let base = least_base(store, slots, slot.sign, low, top.max(1), tried);
     put(store, base, slots);

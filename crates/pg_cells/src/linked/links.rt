@@ -17,12 +17,7 @@ use std::alloc::AllocError;
 
 /// The sign behind `s` in the family below the parent's string, which has the base; the first one
 /// for 0. The answer is 0 where there is none.
-pub fn sign_after<V: Copy, const FEW: usize>(
-    cells: &Placed<V, FEW>,
-    parent: usize,
-    base: usize,
-    s: Sign,
-) -> Sign
+pub fn sign_after<V: Copy>(cells: &Placed<V>, parent: usize, base: usize, s: Sign) -> Sign
     requires links { AreLinks cells.now }
     requires parent { IsTaken cells.now.families parent }
     requires base { GivesBase cells.now.families parent base }
@@ -45,7 +40,7 @@ pub fn sign_after<V: Copy, const FEW: usize>(
 }
 
 // Whether the family with the base has the sign; the base is 0 where there is no family.
-fn has_sign<V: Copy, const FEW: usize>(cells: &Placed<V, FEW>, base: usize, s: Sign) -> bool
+fn has_sign<V: Copy>(cells: &Placed<V>, base: usize, s: Sign) -> bool
     requires held { AreValuedFamilies cells.now }
     requires base { (q : List ℕ) × (HasBase cells.now.families q base) }
     requires sign { IsTableSign cells.now.signs s }
@@ -64,12 +59,7 @@ const SIGNS_PER_LINK: Sign = 8;
 
 // The greatest sign above `low` and up to `high` in the family with the base, or `low` where there
 // is none. The base is 0 where there is no family.
-fn sign_down<V: Copy, const FEW: usize>(
-    cells: &Placed<V, FEW>,
-    base: usize,
-    low: Sign,
-    high: Sign,
-) -> Sign
+fn sign_down<V: Copy>(cells: &Placed<V>, base: usize, low: Sign, high: Sign) -> Sign
     requires held { AreValuedFamilies cells.now }
     requires base { (q : List ℕ) × (HasBase cells.now.families q base) }
     requires low { low ≤ high }
@@ -93,12 +83,7 @@ fn sign_down<V: Copy, const FEW: usize>(
 /// The greatest sign below `s` in the family below the parent's string, which has the base; 0 where
 /// there is none. It is sought along the signs from the first one on and, side by side, sign by
 /// sign down from `s`.
-pub fn sign_before<V: Copy, const FEW: usize>(
-    cells: &Placed<V, FEW>,
-    parent: usize,
-    base: usize,
-    s: Sign,
-) -> Sign
+pub fn sign_before<V: Copy>(cells: &Placed<V>, parent: usize, base: usize, s: Sign) -> Sign
     requires links { AreLinks cells.now }
     requires parent { IsTaken cells.now.families parent }
     requires base { GivesBase cells.now.families parent base }
@@ -122,8 +107,8 @@ pub fn sign_before<V: Copy, const FEW: usize>(
 }
 
 /// Lists the signs of the family below the parent's string, which has the base, in rising order.
-pub fn list_signs<V: Copy, const FEW: usize>(
-    cells: &Placed<V, FEW>,
+pub fn list_signs<V: Copy>(
+    cells: &Placed<V>,
     parent: usize,
     base: usize,
     signs: &mut Vec<Sign>,
@@ -146,8 +131,8 @@ pub fn list_signs<V: Copy, const FEW: usize>(
 
 /// Lists the signs of the family below the parent's string, which has the base, where `s` does not
 /// join it in place.
-pub fn list_moving<V: Copy, const FEW: usize>(
-    cells: &Placed<V, FEW>,
+pub fn list_moving<V: Copy>(
+    cells: &Placed<V>,
     parent: usize,
     base: usize,
     s: Sign,
@@ -177,7 +162,7 @@ pub fn is_alone(before: Sign, after: Sign) -> bool
 }
 
 // Makes `to` the first sign of the family below the parent's string.
-fn set_first<V: Copy, const FEW: usize>(cells: &mut Placed<V, FEW>, parent: usize, to: Sign)
+fn set_first<V: Copy>(cells: &mut Placed<V>, parent: usize, to: Sign)
     requires taken { IsTaken cells.old.families parent }
     requires fits { to < SIGN_COUNT }
     ensures linked { (q : List ℕ) → cell_of cells.old.families q ≡ Some parent →
@@ -195,7 +180,7 @@ fn set_first<V: Copy, const FEW: usize>(cells: &mut Placed<V, FEW>, parent: usiz
 }
 
 // Makes `to` the sign behind that of the cell.
-fn set_next<V: Copy, const FEW: usize>(cells: &mut Placed<V, FEW>, cell: usize, to: Sign)
+fn set_next<V: Copy>(cells: &mut Placed<V>, cell: usize, to: Sign)
     requires taken { IsTaken cells.old.families cell }
     requires fits { to < SIGN_COUNT }
     ensures linked { (q : List ℕ) (s : ℕ) → s ≢ 0 →
@@ -208,7 +193,7 @@ fn set_next<V: Copy, const FEW: usize>(cells: &mut Placed<V, FEW>, cell: usize, 
 }
 
 /// Links the sign `to` behind `s` in the family below the parent's string, as the first one for 0.
-pub fn link<V: Copy, const FEW: usize>(cells: &mut Placed<V, FEW>, parent: usize, s: Sign, to: Sign)
+pub fn link<V: Copy>(cells: &mut Placed<V>, parent: usize, s: Sign, to: Sign)
     requires held { AreValuedFamilies cells.old }
     requires parent { (q : List ℕ) × ((cell_of cells.old.families q ≡ Some parent)
         × ((s ≡ 0) ⊎ (goes_on cells.old.values q s ≡ true))) }

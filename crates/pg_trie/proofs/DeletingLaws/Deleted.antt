@@ -6,6 +6,7 @@ use Rattle.std.specs.List.{flat_map, list_any, starts_with}
 use Rattle.std.specs.FinMap.Entries.{find, same_entries}
 use Rattle.pg_types.specs.Placement.{keeps_cell, kept_families}
 use Rattle.pg_types.specs.Inside.PlacementSteps.{kept_family}
+use Rattle.pg_types.proofs.PlacementLaws.{kept_is}
 use Rattle.pg_types.specs.Inside.Placing.{cell_of}
 use Rattle.pg_patterns.specs.DottedSigns.{dotted_cmp}
 use Rattle.pg_patterns.specs.Inside.DottedOrder.{dotted_total, dotted_exact}
@@ -240,7 +241,7 @@ module _ (cells : ValuedFamilies ℕ) (records : List Record) (is : IsPatternTri
             ap (found_at as_hopeless (list_of fresh) d) at ∙ ap (λ h. found_in as_hopeless d (list_of fresh h)) (sym same) ∙ ap (found_in as_hopeless d) l.3 ∙ no_marks d (list_of records b.0)
 
     pub left_families : left.families ≡ kept_families strings_of cells.families
-    left_families = p.families ∙ ap (flat_map (kept_family keeps)) new.families
+    left_families = p.families ∙ ap (flat_map (kept_family keeps)) new.families ∙ sym (kept_is strings_of cells.families)
 
     -- what is seen of the trie that is left
     pub left_view : (m : Maps) → maps_of cells records ≡ m → maps_of left fresh ≡ record m { hopeless = []; families = kept_families (map (λ e. e.0.0) m.patterns) m.families; records = fresh }

@@ -14,9 +14,9 @@ use Rattle.std.specs.Set.{is_member}
 use Rattle.pg_types.specs.Tails.{outputs_of, suffixes, same_pair, tails}
 use Rattle.pg_patterns.specs.Values.{Patterns}
 use Rattle.pg_outputs.specs.declared.records.Record.{Record}
-use Rattle.pg_outputs.specs.Lists.{list_of, lists}
+use Rattle.pg_outputs.specs.Lists.{list_of}
 use Rattle.pg_outputs.specs.Inside.Heads.{OneHeadEach}
-use Rattle.pg_outputs.proofs.ListLaws.{list_of-zero, list_of-append, list_of-new, length-lists}
+use Rattle.pg_outputs.proofs.ListLaws.{lists, list_of-zero, list_of-append, list_of-new, length-lists}
 use Rattle.pg_cells.specs.Inside.linked.ValuedFamilies.{ValuedFamilies}
 use Rattle.pg_cells.proofs.StringMaps.{order, equal_or_not, find_below, head_below, tail_sorted}
 use Rattle.pg_trie.specs.declared.hopeless.TheConstants.{HOPELESS}

@@ -7,5 +7,5 @@ abbrev pub invariant-loop-k : goal.invariant-loop-k
 invariant-loop-k g l = record {
   up : 0 < l.k;
   at : cell_of l.cells.families (take l.k l.signs) ≡ Some l.cell;
-  known : NeedsNoCell g.row.FEW l.cells.signs l.cells.families l.signs l.k;
+  known : NeedsNoCell l.cells.signs l.cells.families l.signs l.k;
 }

@@ -1,4 +1,4 @@
-use Rattle.std.proofs.Common.{◌≡◌, ◌∷◌, [], ◌++◌, Some, None, ap, sym, subst, ◌∙◌, cond, arith}
+use Rattle.std.proofs.Common.{◌≡◌, ◌∷◌, [], ◌++◌, Some, None, ap, sym, subst, ◌∙◌, cond}
 use Rattle.std.proofs.lemmas.Bool.{eq-eqb}
 use Rattle.pg_types.specs.Placement.{base_of}
 use Rattle.pg_types.specs.Inside.Placing.{cell_of}
@@ -8,7 +8,7 @@ use Rattle.pg_cells.proofs.Walking.{childless}
 use Rattle.pg_cells.proofs.walks.step.Goals as goal
 
 pub root_cell-requires : goal.root_cell-requires
-root_cell-requires g c = (omega arith, c.requires.sign)
+root_cell-requires g c = c.requires.sign
 
 pub returns-in_default-clause-cell : goal.returns-in_default-clause-cell
 returns-in_default-clause-cell g c q at =
@@ -19,12 +19,12 @@ pub returns-in_default-clause-none : goal.returns-in_default-clause-none
 returns-in_default-clause-none g c q at none = absurd (let n : Some c.root_cell.result ≡ None = none in cc)
 
 pub child-base-requires : goal.child-base-requires
-child-base-requires g c = (omega arith, (c.requires.at.0, subst (λ at. IsAt c.args.cells.now.families at c.requires.at.0) c.in-Some.is c.requires.at.1))
+child-base-requires g c = (c.requires.at.0, subst (λ at. IsAt c.args.cells.now.families at c.requires.at.0) c.in-Some.is c.requires.at.1)
 
 pub find-requires : goal.find-requires
 find-requires g c =
     let here : cell_of c.args.cells.now.families c.requires.at.0 ≡ Some c.in-Some.cell = subst (λ at. IsAt c.args.cells.now.families at c.requires.at.0) c.in-Some.is c.requires.at.1 in
-    (omega arith, ((c.requires.at.0, some_base c.args.cells.now.families c.requires.at.0 c.child-base.result (c.child-base.ensures.base c.requires.at.0 here) c.if-base-eq0.false), c.requires.sign))
+    record { base = (c.requires.at.0, some_base c.args.cells.now.families c.requires.at.0 c.child-base.result (c.child-base.ensures.base c.requires.at.0 here) c.if-base-eq0.false); sign = c.requires.sign }
 
 pub returns-then-base-eq0-clause-cell : goal.returns-then-base-eq0-clause-cell
 returns-then-base-eq0-clause-cell g c q at =

@@ -3,9 +3,9 @@ use Rattle.std.specs.Prelude.{◌≡◌, ◌≢◌, ℕ, ◌≤◌, false, List,
 use Rattle.std.specs.Ordering.{nat_cmp}
 use Rattle.std.specs.Cmp.Lexicographic.{slice_cmp}
 use Rattle.std.specs.FinMap.{put}
-use Rattle.pg_types.specs.Placement.{Families, with_sign}
+use Rattle.pg_types.specs.Placement.{Families}
+use Rattle.pg_types.specs.Inside.PlacementSteps.{with_new_sign}
 use Rattle.pg_types.specs.Inside.Placing.{cell_of, joins_at}
-use Rattle.pg_cells.specs.Inside.families.Searches.{search_start}
 use Rattle.pg_cells.specs.Inside.linked.ValuedFamilies.{Trie, ValuedFamilies}
 use Rattle.pg_cells.specs.Inside.linked.AreValuedFamilies.{AreValuedFamilies}
 use Rattle.pg_cells.specs.Inside.store.CellRows.{Row}
@@ -22,12 +22,12 @@ pub record CanTakeSign (signs : ℕ) (fs : Families) (parent s : ℕ) : Type 0 w
 
 module _ {V E : Type 0} where
   -- s is added below the string that has the cell `parent`, with a value; after an error nothing is
-  pub record AddsSign (few : ℕ) (old new : ValuedFamilies V) (parent s : ℕ) (v : V)
+  pub record AddsSign (old new : ValuedFamilies V) (parent s : ℕ) (v : V)
       (result : Result ℕ E) : Type 0 where
     -- the families are placed by their rule, and the longer string has the value
     pub held : (q : List ℕ) → cell_of old.families q ≡ Some parent → OnOk result (new
         ≡ record old {
-          families = with_sign (search_start few old.signs) old.families q s;
+          families = with_new_sign old.signs old.families q s;
           values = put (slice_cmp nat_cmp) (q ++ s ∷ []) v old.values;
         })
     -- the answer is the cell of the longer string
@@ -51,8 +51,8 @@ module _ {V : Type 0} where
     pub are : joins_at t.families p s ≡ false → ArePassing (has_sign t.families p) members
 
   -- the trie with the sign added below the string, and the value of the longer string
-  abbrev pub with_sign_below : ℕ → ℕ → Trie V → List ℕ → ℕ → V → Trie V
-  with_sign_below few n t p s v = record {
-    families = with_sign (search_start few n) t.families p s;
+  abbrev pub with_sign_below : ℕ → Trie V → List ℕ → ℕ → V → Trie V
+  with_sign_below n t p s v = record {
+    families = with_new_sign n t.families p s;
     values = put (slice_cmp nat_cmp) (p ++ s ∷ []) v t.values;
   }

@@ -1,11 +1,11 @@
 -- What holds after the cells of a family are collected, given up, and put at another base.
 use Rattle.std.specs.Prelude.{◌≡◌, ◌≢◌, ℕ, ◌+◌, ◌<◌, ◌≤◌, ◌⊎◌, max, true, false, List, [], ◌∷◌, ◌++◌, length, take, get_or, slice_get, None, Some}
+use Rattle.pg_types.specs.Inside.PlacementSteps.{lowest_base}
 use Rattle.pg_cells.specs.declared.store.fit.Slot.{Slot}
 use Rattle.pg_cells.specs.declared.store.member.Member.{Member}
 use Rattle.pg_cells.specs.Inside.store.CellRows.{Row, FitsCell, sign_at, child_at, base_at}
 use Rattle.pg_types.specs.Inside.Placing.{IsLeast}
 use Rattle.pg_cells.specs.Inside.store.Store.{taken_in, IsTop}
-use Rattle.pg_cells.specs.Inside.families.Searches.{search_start}
 use Rattle.pg_cells.specs.Inside.store.Writes.{Takes, SetsBase, SetsChild}
 use Rattle.pg_cells.specs.Inside.store.Fit.{slot_signs, slot_of, fits_row}
 use Rattle.pg_cells.specs.Inside.families.Layouts.{signs_at_base}
@@ -93,7 +93,7 @@ module _ {V : Type 0} where
     pub based : (i : ℕ) → sign_at r i ≢ 0 → (b : ℕ) × (base_at r b ≡ true) × (i ≡ b + sign_at r i)
 
   -- a family gave up its cells and its base, and was put with one sign more at the least base
-  pub record MovesFamily (few n : ℕ) (old new : Row V) (was base : ℕ)
+  pub record MovesFamily (n : ℕ) (old new : Row V) (was base : ℕ)
       (slots : List (Slot V)) (slot : Slot V) (parent : ℕ) : Type 0 where
     pub gave : Row V
     pub dropped : Row V
@@ -105,7 +105,7 @@ module _ {V : Type 0} where
     pub top : ℕ
     pub is_top : IsTop dropped.signs top
     pub least : IsLeast (fits_row dropped (slot.sign ∷ slot_signs slots))
-        (search_start few n (length slots + 1) top) base
+        (lowest_base n (length slots + 1) top) base
     pub near : base ≤ max 1 top
     pub puts : PutsSlots dropped settled base slots
     pub takes : Takes settled took (base + slot.sign) slot.sign slot.value slot.child

@@ -23,7 +23,7 @@ least-find-requires t c =
     let p = c.requires.base.0 in
     let goes = c.loop-s.invariant.there p c.requires.base.1.0 (omega arith) in
     let cell = goes_cell c.args.cells.now c.requires.held p c.loop-s.s goes in
-    (search rules, ((p, c.requires.base.1.0), c.requires.held.signs p c.loop-s.s cell.0 cell.1))
+    record { base = (p, c.requires.base.1.0); sign = c.requires.held.signs p c.loop-s.s cell.0 cell.1 }
 
 pub least-returns-in_err-cell : goal.least-returns-in_err-cell
 least-returns-in_err-cell t c p at =
@@ -33,7 +33,7 @@ least-returns-in_err-cell t c p at =
     absurd (let wrong : None ≡ Some cell.0 = sym none ∙ cell.1 in cc)
 
 pub least-next_sign-s-requires : goal.least-next_sign-s-requires
-least-next_sign-s-requires t c = (search rules, (c.requires.base.0 ++ c.loop-s.s ∷ [], sym (c.in_ok-cell.ensures.cell c.requires.base.0 c.requires.base.1.0)))
+least-next_sign-s-requires t c = (c.requires.base.0 ++ c.loop-s.s ∷ [], sym (c.in_ok-cell.ensures.cell c.requires.base.0 c.requires.base.1.0))
 
 pub least-loop-s-preserved : goal.least-loop-s-preserved
 least-loop-s-preserved t c =

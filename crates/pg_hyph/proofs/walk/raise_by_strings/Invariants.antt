@@ -1,6 +1,5 @@
 use Rattle.std.proofs.Common.{◌-◌, Some, take, drop}
-use Rattle.pg_trie.specs.Inside.Lists.{IsAt}
-use Rattle.pg_trie.specs.Inside.Lists.{outputs_at}
+use Rattle.pg_trie.specs.Inside.Lists.{IsAt, outputs_at}
 use Rattle.pg_select.specs.Inside.words.Positions.{values_of, covers_of}
 use Rattle.pg_hyph.specs.Inside.ListValues.{value_by, cover_by}
 use Rattle.pg_hyph.proofs.Loops.{AtStop}

@@ -29,9 +29,9 @@ invariant_of-self-inside g c =
     subst (λ (h : ValuedFamilies (Member g.row.V.Denot)). CanTakeSign h.signs h.families c.args.parent c.args.s) (sym c.self.view_is) c.requires.can in
     let adds = can_add c.self.inside.signs c.self.inside.store c.self.inside.layout.0 c.self.invariant.trie c.args.self.now c.self.view_is
     c.args.parent c.args.s can c.args.members.now c.requires.members in
-    let trie = after_held g.row.FEW c.self.inside.signs c.self.inside.store c.add_slot.new.store c.self.inside.layout.0 can.prefix c.args.s c.args.v c.add_slot.result c.self.invariant.trie
+    let trie = after_held c.self.inside.signs c.self.inside.store c.add_slot.new.store c.self.inside.layout.0 can.prefix c.args.s c.args.v c.add_slot.result c.self.invariant.trie
     (c.add_slot.ensures.trie c.self.inside.layout.0 can.prefix adds) c.add_slot.ensures.err in
-    ((after g.row.FEW c.self.inside.signs c.self.inside.layout.0 can.prefix c.args.s c.args.v c.add_slot.result, ∣ trie ∣₁), tt)
+    ((after c.self.inside.signs c.self.inside.layout.0 can.prefix c.args.s c.args.v c.add_slot.result, ∣ trie ∣₁), tt)
 
 pub invariant_of-self : goal.invariant_of-self
 invariant_of-self g c =
@@ -39,7 +39,7 @@ invariant_of-self g c =
     subst (λ (h : ValuedFamilies (Member g.row.V.Denot)). CanTakeSign h.signs h.families c.args.parent c.args.s) (sym c.self.view_is) c.requires.can in
     let adds = can_add c.self.inside.signs c.self.inside.store c.self.inside.layout.0 c.self.invariant.trie c.args.self.now c.self.view_is
     c.args.parent c.args.s can c.args.members.now c.requires.members in
-    let trie = after_held g.row.FEW c.self.inside.signs c.self.inside.store c.add_slot.new.store c.self.inside.layout.0 can.prefix c.args.s c.args.v c.add_slot.result c.self.invariant.trie
+    let trie = after_held c.self.inside.signs c.self.inside.store c.add_slot.new.store c.self.inside.layout.0 can.prefix c.args.s c.args.v c.add_slot.result c.self.invariant.trie
     (c.add_slot.ensures.trie c.self.inside.layout.0 can.prefix adds) c.add_slot.ensures.err in
     let all : (d : TrieOfRow c.self.inside.signs c.add_slot.new.store) → AreKept c.self.inside.signs c.add_slot.new.store d.0 =
     λ d. record {
@@ -56,11 +56,11 @@ returns g c =
     subst (λ (h : ValuedFamilies (Member g.row.V.Denot)). CanTakeSign h.signs h.families c.args.parent c.args.s) (sym c.self.view_is) c.requires.can in
     let adds = can_add c.self.inside.signs c.self.inside.store c.self.inside.layout.0 c.self.invariant.trie c.args.self.now c.self.view_is
     c.args.parent c.args.s can c.args.members.now c.requires.members in
-    let trie = after_held g.row.FEW c.self.inside.signs c.self.inside.store c.add_slot.new.store c.self.inside.layout.0 can.prefix c.args.s c.args.v c.add_slot.result c.self.invariant.trie
+    let trie = after_held c.self.inside.signs c.self.inside.store c.add_slot.new.store c.self.inside.layout.0 can.prefix c.args.s c.args.v c.add_slot.result c.self.invariant.trie
     (c.add_slot.ensures.trie c.self.inside.layout.0 can.prefix adds) c.add_slot.ensures.err in
-    let all : (d : TrieOfRow c.self.inside.signs c.add_slot.new.store) → AddsSign g.row.FEW c.args.self.now (seen c.self.inside.signs d.0) c.args.parent c.args.s c.args.v c.add_slot.result =
+    let all : (d : TrieOfRow c.self.inside.signs c.add_slot.new.store) → AddsSign c.args.self.now (seen c.self.inside.signs d.0) c.args.parent c.args.s c.args.v c.add_slot.result =
     λ d. placed_added c.self.inside.signs c.self.inside.store c.add_slot.new.store c.self.inside.layout.0 c.self.invariant.trie c.add_slot.ensures.row.values
-    c.args.self.now c.self.view_is c.args.parent c.args.s can g.row.FEW c.args.v c.add_slot.result
+    c.args.self.now c.self.view_is c.args.parent c.args.s can c.args.v c.add_slot.result
     (c.add_slot.ensures.trie c.self.inside.layout.0 can.prefix adds) (c.add_slot.ensures.cell c.self.inside.layout.0 can.prefix adds)
     d.0 (kept_is_only (member_code g.row.V.coded) c.self.inside.signs c.add_slot.new.store d _ trie) in
     search all

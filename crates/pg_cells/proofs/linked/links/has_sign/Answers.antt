@@ -1,4 +1,4 @@
-use Rattle.std.proofs.Common.{◌∙◌, ap, sym, rules}
+use Rattle.std.proofs.Common.{◌∙◌, ap, sym}
 use Rattle.std.specs.Option.{is_some}
 use Rattle.pg_cells.proofs.LinkLaws.{some_base, none_goes_on, goes_has}
 use Rattle.pg_cells.proofs.linked.links.has_sign.Goals as goal
@@ -8,7 +8,7 @@ returns-then-base-eq0 g c q told = sym (none_goes_on c.args.cells.now c.requires
 
 pub find-requires : goal.find-requires
 find-requires g c =
-    (search rules, ((c.requires.base.0, some_base c.args.cells.now.families c.requires.base.0 c.args.base c.requires.base.1 c.if-base-eq0.false), c.requires.sign))
+    record { base = (c.requires.base.0, some_base c.args.cells.now.families c.requires.base.0 c.args.base c.requires.base.1 c.if-base-eq0.false); sign = c.requires.sign }
 
 pub returns : goal.returns
 returns g c q told =

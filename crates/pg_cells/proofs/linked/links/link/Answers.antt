@@ -1,4 +1,4 @@
-use Rattle.std.proofs.Common.{◌≡◌, [], ◌∷◌, ◌++◌, Some, None, inl, inr, sym, subst, ◌∙◌, arith}
+use Rattle.std.proofs.Common.{◌≡◌, [], ◌∷◌, ◌++◌, Some, None, inl, inr, sym, subst, ◌∙◌}
 use Rattle.std.proofs.lemmas.Bool.{both_ways}
 use Rattle.pg_types.specs.Inside.Placing.{cell_of}
 use Rattle.pg_cells.specs.Inside.linked.Members.{goes_on}
@@ -38,10 +38,10 @@ returns-in_default-clause-linked g c q e =
     ]
 
 pub set_first-requires : goal.set_first-requires
-set_first-requires g c = (omega arith, ((c.requires.parent.0, c.requires.parent.1.0), c.requires.fits))
+set_first-requires g c = record { taken = (c.requires.parent.0, c.requires.parent.1.0); fits = c.requires.fits }
 
 pub child-base-requires : goal.child-base-requires
-child-base-requires g c = (omega arith, (c.requires.parent.0, c.requires.parent.1.0))
+child-base-requires g c = (c.requires.parent.0, c.requires.parent.1.0)
 
 pub returns-then-s-eq0-clause-kept : goal.returns-then-s-eq0-clause-kept
 returns-then-s-eq0-clause-kept g c = c.set_first.ensures.kept

@@ -10,7 +10,7 @@ returns-clause-signs g c q e no_join =
     passing_alike (goes_on h.values q) (has_sign h.families q) c.list_signs.new.signs.items (λ z up. goes_has h c.requires.links.held q z) (c.in_ok-list_signs.ensures.signs q e)
 
 pub is_joining-requires : goal.is_joining-requires
-is_joining-requires g c = (omega arith, c.requires.can)
+is_joining-requires g c = c.requires.can
 
 pub returns-then-is_joining-clause-positive : goal.returns-then-is_joining-clause-positive
 returns-then-is_joining-clause-positive g c k lt = absurd (let size = ap length c.clear.ensures.items in omega arith)
@@ -19,7 +19,7 @@ pub returns-then-is_joining-clause-signs : goal.returns-then-is_joining-clause-s
 returns-then-is_joining-clause-signs g c q e apart = absurd (let z : true ≡ false = sym (sym (c.is_joining.ensures q e) ∙ c.if-is_joining.true) ∙ apart in cc)
 
 pub list_signs-requires : goal.list_signs-requires
-list_signs-requires g c = (omega arith, (c.requires.links, ((c.requires.can.prefix, c.requires.can.at), c.requires.base)))
+list_signs-requires g c = record { links = c.requires.links; parent = (c.requires.can.prefix, c.requires.can.at); base = c.requires.base }
 
 pub returns-clause-positive : goal.returns-clause-positive
 returns-clause-positive g c = c.in_ok-list_signs.ensures.positive

@@ -44,13 +44,7 @@ returns-clause-signs g c q e = record {
 }
 
 pub sign_after-next-requires : goal.sign_after-next-requires
-sign_after-next-requires g c = (omega arith, (c.requires.links, (c.requires.parent, (c.requires.base, λ q e. inl refl))))
+sign_after-next-requires g c = record { links = c.requires.links; parent = c.requires.parent; base = c.requires.base; sign = λ q e. inl refl }
 
 pub sign_after-next-requires-in-loop-next : goal.sign_after-next-requires-in-loop-next
-sign_after-next-requires-in-loop-next g c = (
-  omega arith,
-  (
-    c.requires.links,
-    (c.requires.parent, (c.requires.base, λ q e. inr ((c.loop-next.invariant.next q e).found (omega arith)).1)),
-  ),
-)
+sign_after-next-requires-in-loop-next g c = record { links = c.requires.links; parent = c.requires.parent; base = c.requires.base; sign = λ q e. inr ((c.loop-next.invariant.next q e).found (omega arith)).1 }

@@ -1,4 +1,4 @@
-use Rattle.std.proofs.Common.{[], ◌∷◌, ◌++◌, arith}
+use Rattle.std.proofs.Common.{[], ◌∷◌, ◌++◌}
 use Rattle.std.proofs.lemmas.Bool.{ne_eqb}
 use Rattle.pg_cells.proofs.linked.links.set_next.Goals as goal
 
@@ -7,7 +7,7 @@ returns-clause-linked g c q s other e =
     rw (ne_eqb s 0 other) (rw (c.value-member.ensures.value (q ++ s ∷ []) e) (c.set_value.ensures.held (q ++ s ∷ []) e))
 
 pub value-member-requires : goal.value-member-requires
-value-member-requires g c = (omega arith, c.requires.taken)
+value-member-requires g c = c.requires.taken
 
 pub set_value-requires : goal.set_value-requires
-set_value-requires g c = (omega arith, (c.requires.taken, (c.requires.fits, c.value-member.ensures.fits.1)))
+set_value-requires g c = record { taken = c.requires.taken; fits = (c.requires.fits, c.value-member.ensures.fits.1) }

@@ -1,4 +1,4 @@
-use Rattle.std.proofs.Common.{◌≡◌, ◌≤◌, ◌++◌, [], ◌∷◌, Some, None, inl, inr, sym, ◌∙◌, arith}
+use Rattle.std.proofs.Common.{◌≡◌, ◌≤◌, ◌++◌, [], ◌∷◌, Some, None, inl, inr, sym, ◌∙◌}
 use Rattle.std.proofs.lemmas.Bool.{both_ways}
 use Rattle.pg_types.specs.Inside.Placing.{cell_of}
 use Rattle.pg_cells.specs.Inside.linked.Members.{goes_on}
@@ -34,7 +34,7 @@ returns-in-None-clause-next g c q e =
     ]
 
 pub value-requires : goal.value-requires
-value-requires g c = (omega arith, c.requires.parent)
+value-requires g c = c.requires.parent
 
 pub find-requires : goal.find-requires
 find-requires g c =
@@ -47,9 +47,9 @@ find-requires g c =
           let cell = goes_cell h c.requires.links.held c.requires.parent.0 c.args.s there in
           c.requires.links.held.signs c.requires.parent.0 c.args.s cell.0 cell.1
     ] in
-    (omega arith, ((c.requires.parent.0, has), sign))
+    record { base = (c.requires.parent.0, has); sign = sign }
 
 pub value-requires-in-Some : goal.value-requires-in-Some
 value-requires-in-Some g c =
     let has = some_base c.args.cells.now.families c.requires.parent.0 c.args.base (c.requires.base c.requires.parent.0 c.requires.parent.1) c.if-base-eq0.false in
-    (omega arith, (c.requires.parent.0 ++ c.args.s ∷ [], sym (c.in-Some.ensures.cell c.requires.parent.0 has)))
+    (c.requires.parent.0 ++ c.args.s ∷ [], sym (c.in-Some.ensures.cell c.requires.parent.0 has))

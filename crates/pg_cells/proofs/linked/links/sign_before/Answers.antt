@@ -55,20 +55,14 @@ returns-else-next-s g c q e =
     record { less = c.loop-next.invariant.less; there = h.1; most = none_between (goes_on c.args.cells.now.values q) c.loop-next.before c.loop-next.next c.args.s h.0 (inr c.if-next-s.false) }
 
 pub sign_after-next-requires : goal.sign_after-next-requires
-sign_after-next-requires g c = (omega arith, (c.requires.links, (c.requires.parent, (c.requires.base, λ q e. inl refl))))
+sign_after-next-requires g c = record { links = c.requires.links; parent = c.requires.parent; base = c.requires.base; sign = λ q e. inl refl }
 
 pub overflow_sub-below : goal.overflow_sub-below
 overflow_sub-below g c = c.requires.sign.0
 
 pub sign_down-below-requires : goal.sign_down-below-requires
 sign_down-below-requires g c = let sub = c.saturating_sub-low.ensures in let under = c.loop-next.invariant.under in let high = c.requires.sign.1 in
-    (omega arith, (c.requires.links.held, ((c.requires.parent.0, c.requires.base c.requires.parent.0 c.requires.parent.1), (omega arith, omega arith))))
+    record { held = c.requires.links.held; base = (c.requires.parent.0, c.requires.base c.requires.parent.0 c.requires.parent.1); low = omega arith; high = omega arith }
 
 pub sign_after-next-requires-in-loop-next : goal.sign_after-next-requires-in-loop-next
-sign_after-next-requires-in-loop-next g c = (
-  omega arith,
-  (
-    c.requires.links,
-    (c.requires.parent, (c.requires.base, λ q e. inr ((c.loop-next.invariant.next q e).0.found (omega arith)).1)),
-  ),
-)
+sign_after-next-requires-in-loop-next g c = record { links = c.requires.links; parent = c.requires.parent; base = c.requires.base; sign = λ q e. inr ((c.loop-next.invariant.next q e).0.found (omega arith)).1 }

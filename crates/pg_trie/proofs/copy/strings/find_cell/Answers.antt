@@ -1,6 +1,6 @@
 use Rattle.pg_types.specs.Inside.Placing.{cell_of}
 use Rattle.std.proofs.lemmas.List.{take_more}
-use Rattle.std.proofs.Common.{take, sym, lit<, refl, ap, ◌∙◌}
+use Rattle.std.proofs.Common.{take, sym, refl, ap, ◌∙◌}
 use Rattle.pg_trie.proofs.TrieLaws.Listing.{no_cell}
 use Rattle.pg_trie.proofs.copy.strings.find_cell.Goals as goal
 
@@ -10,7 +10,7 @@ returns-in_err-step c =
     (sym (no_cell c.args.cells.now c.requires.held c.args.signs.now c.loop-s.s-index c.loop-s-test.true (sym (c.in_err-step.ensures.cell (take c.loop-s.s-index c.args.signs.now) c.loop-s.invariant))))
 
 pub step-requires : goal.step-requires
-step-requires c = (lit< tt, ((take c.loop-s.s-index c.args.signs.now, c.loop-s.invariant), c.requires.signs c.loop-s.s-index 0 c.loop-s-test.true))
+step-requires c = record { at = (take c.loop-s.s-index c.args.signs.now, c.loop-s.invariant); sign = c.requires.signs c.loop-s.s-index 0 c.loop-s-test.true }
 
 pub loop-s-init : goal.loop-s-init
 loop-s-init c = refl

@@ -1,4 +1,4 @@
-use Rattle.std.proofs.Common.{◌≡◌, ℕ, ◌+◌, List, [], ◌∷◌, ◌++◌, Some, slice_get, sym, ap, ◌∙◌, subst, lit<, ◌<◌, None}
+use Rattle.std.proofs.Common.{◌≡◌, ℕ, ◌+◌, List, [], ◌∷◌, ◌++◌, Some, slice_get, sym, ap, ◌∙◌, subst, ◌<◌, None}
 use Rattle.pg_cells.specs.Inside.linked.Walks.{EndsBefore}
 use Rattle.pg_trie.specs.Inside.Strings.{PutsBelow}
 use Rattle.pg_trie.proofs.TrieLaws.Listing.{puts_nothing, get_index, on_ok, get_there}
@@ -28,10 +28,10 @@ returns-in_default-child c =
     c.push_family.ensures
 
 pub child-requires : goal.child-requires
-child-requires c = (lit< tt, (c.signs-2.result.now, sym c.in-Some.ensures))
+child-requires c = (c.signs-2.result.now, sym c.in-Some.ensures)
 
 pub first_sign-requires : goal.first_sign-requires
-first_sign-requires c = (lit< tt, (c.signs-2.result.now, sym c.in-Some.ensures))
+first_sign-requires c = (c.signs-2.result.now, sym c.in-Some.ensures)
 
 pub index-requires : goal.index-requires
 index-requires c = subst (λ (k : ℕ). c.args.i < k) (sym c.args.strings.now.ok.0) c.requires.inside

@@ -16,7 +16,7 @@ loop-s-init c = record {
 pub find-requires : goal.find-requires
 find-requires c =
     let cell = goes_cell c.args.cells.now c.requires.held c.args.prefix.now c.loop-s.s (c.loop-s.invariant.goes (omega arith)) in
-    (search rules, ((c.args.prefix.now, c.requires.base), c.requires.held.signs c.args.prefix.now c.loop-s.s cell.0 cell.1))
+    record { base = (c.args.prefix.now, c.requires.base); sign = c.requires.held.signs c.args.prefix.now c.loop-s.s cell.0 cell.1 }
 
 pub returns-in_default : goal.returns-in_default
 returns-in_default c =
@@ -25,7 +25,7 @@ returns-in_default c =
     absurd (let wrong : None ≡ Some cell.0 = sym none ∙ cell.1 in cc)
 
 pub next_sign-s-requires : goal.next_sign-s-requires
-next_sign-s-requires c = (search rules, (c.args.prefix.now ++ c.loop-s.s ∷ [], sym (c.in-Some.ensures.cell c.args.prefix.now c.requires.base)))
+next_sign-s-requires c = (c.args.prefix.now ++ c.loop-s.s ∷ [], sym (c.in-Some.ensures.cell c.args.prefix.now c.requires.base))
 
 pub loop-s-preserved : goal.loop-s-preserved
 loop-s-preserved c =

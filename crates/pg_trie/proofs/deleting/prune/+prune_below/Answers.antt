@@ -1,4 +1,4 @@
-use Rattle.std.proofs.Common.{◌≡◌, ℕ, List, [], ◌∷◌, ◌++◌, Some, None, sym, subst, ◌∙◌, arith, rules, lit<, ◌+◌, ◌≤◌, length}
+use Rattle.std.proofs.Common.{◌≡◌, ℕ, List, [], ◌∷◌, ◌++◌, Some, None, sym, subst, ◌∙◌, arith, rules, ◌+◌, ◌≤◌, length}
 use Rattle.std.proofs.lemmas.List.{length_push}
 use Rattle.pg_types.specs.Inside.Placing.{cell_of}
 use Rattle.pg_cells.specs.Inside.linked.Members.{IsBefore}
@@ -28,7 +28,7 @@ step-requires t c =
     let to = c.loop-s.invariant.to p at in
     let now_at : cell_of c.loop-s.cells.families p ≡ Some c.args.cell = (to.elsewhere p (not_below p)).1 ∙ at in
     let cell = goes_cell c.loop-s.cells to.held p c.loop-s.s (c.loop-s.invariant.goes p at (omega arith)) in
-    (search rules, ((p, now_at), to.held.signs p c.loop-s.s cell.0 cell.1))
+    record { at = (p, now_at); sign = to.held.signs p c.loop-s.s cell.0 cell.1 }
 
 pub returns-in_default : goal.returns-in_default
 returns-in_default t c q e =
@@ -45,7 +45,7 @@ next_sign-next-requires t c =
     let to = c.loop-s.invariant.to p at in
     let now_at : cell_of c.loop-s.cells.families p ≡ Some c.args.cell = (to.elsewhere p (not_below p)).1 ∙ at in
     let there : cell_of c.loop-s.cells.families (p ++ c.loop-s.s ∷ []) ≡ Some c.in-Some.below = sym (c.in-Some.ensures.cell p now_at) in
-    (search rules, (p ++ c.loop-s.s ∷ [], there))
+    (p ++ c.loop-s.s ∷ [], there)
 
 pub prune_below-requires : goal.prune_below-requires
 prune_below-requires t c =
@@ -122,7 +122,7 @@ loop-s-preserved t c =
     }
 
 pub first_sign-s-requires : goal.first_sign-s-requires
-first_sign-s-requires t c = (lit< tt, (c.requires.cell.0, c.requires.cell.1.0))
+first_sign-s-requires t c = (c.requires.cell.0, c.requires.cell.1.0)
 
 pub overflow_sub-more : goal.overflow_sub-more
 overflow_sub-more t c =
