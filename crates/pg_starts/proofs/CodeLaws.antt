@@ -1,7 +1,8 @@
 -- Codes of windows compare as the windows do.
-use Rattle.std.proofs.Common.{◌≡◌, ℕ, zero, suc, ◌+◌, ◌*◌, ◌/◌, ◌%◌, ◌<◌, ◌≤◌, ◌^◌, Bool, true, List, [], ◌∷◌, ◌++◌, length, get_or, Some, refl, sym, ap, subst, ◌∙◌, arith}
+use Rattle.std.proofs.Common.{◌≡◌, ℕ, zero, suc, ◌+◌, ◌*◌, ◌/◌, ◌%◌, ◌<◌, ◌≤◌, Bool, true, List, [], ◌∷◌, ◌++◌, length, get_or, Some, inl, inr, refl, sym, ap, subst, ◌∙◌, arith}
 use Rattle.std.specs.Ordering.{nat_cmp, ordering_then}
 use Rattle.std.specs.Cmp.Lexicographic.{slice_cmp}
+use Rattle.std.proofs.lemmas.Bool.{cases_lt}
 use Rattle.std.proofs.lemmas.List.{length-append}
 use Rattle.std.proofs.lemmas.List.FromFn.{get_or-map-range_with_len, length-map-range_with_len}
 use Rattle.std.proofs.lemmas.Nat.{div-mul-add, mod-mul-add, mul-add-lt}
@@ -101,14 +102,19 @@ codes_fit radix count (suc (suc zero)) some few from upto = omega (arith, few, c
 codes_fit radix count (suc (suc (suc zero))) some few from upto = few
 codes_fit radix count (suc (suc (suc (suc len)))) some few from upto = absurd (omega arith)
 
-count_three : (r : ℕ) → code_count r 3 ≡ r * (r * r)
-count_three r =
-    let one : 1 * r ≡ r = omega arith in
-    ap (λ x. x * r * r) one ∙ mul_comm (r * r) r
+pub counts_rise : (radix a b : ℕ) → 0 < radix → a ≤ b → code_count radix a ≤ code_count radix b
+counts_rise radix a zero some upto = (let none : a ≡ 0 = omega arith in omega (arith, ap (code_count radix) none))
+counts_rise radix a (suc b) some upto = elim (cases_lt a (suc b)) [
+  | inl less ↦ omega (arith, counts_rise radix a b some (omega arith), codes_more radix b some)
+  | inr same ↦ (let is : a ≡ suc b = omega arith in omega (arith, ap (code_count radix) is))
+]
 
-pub three_fit : (r a b s len : ℕ) → len ≡ 3 → a < r → b < r → s < r → code_count r len ≤ 2 ^ 32 → (a * r + b) * r + s < 2 ^ 32
-three_fit r a b s len is x y z few =
-    let two : a * r + b < r * r = mul-add-lt a r b r x y in
-    let three : (a * r + b) * r + s < r * (r * r) = mul-add-lt (a * r + b) r s (r * r) two z in
-    let count : code_count r len ≡ r * (r * r) = ap (code_count r) is ∙ count_three r in
-    omega (arith, three, count, few)
+-- the code of a window of one sign is the sign, and a sign more is a digit more
+pub code_one : (signs : List ℕ) (radix start : ℕ) → code_at signs radix start 1 ≡ get_or signs start 0
+code_one signs radix start =
+    let front : 0 * radix ≡ 0 = omega arith in
+    let here : start + 0 ≡ start = omega arith in
+    (λ k. front k + get_or signs (here k) 0) ∙ (let e : 0 + get_or signs start 0 ≡ get_or signs start 0 = omega arith in e)
+
+pub code_more : (signs : List ℕ) (radix start at : ℕ) → code_at signs radix start (at + 1) ≡ code_at signs radix start at * radix + get_or signs (start + at) 0
+code_more signs radix start at = ap (code_at signs radix start) (let e : at + 1 ≡ suc at = omega arith in e)

@@ -11,7 +11,7 @@ const PARTS: u64 = 64;
 /// A cell that no key has.
 const FREE: u32 = 0xffff_ffff;
 
-/// How far below the end the cell of a family's first part is looked for.
+/// How far below the end a free cell is looked for, for a family's first part.
 const GAP: usize = 16;
 
 /// Where each family is, and the numbers in the cells.
@@ -51,6 +51,16 @@ fn fits_at(cells: &[u32], family: &[u64], base: usize) -> bool
         }
     }
     true
+}
+
+/// The first free cell from one on. The end is free.
+fn first_free(cells: &[u32], from: usize) -> usize {
+    for cell in from..cells.len() {
+        if cells[cell] == FREE {
+            return cell;
+        }
+    }
+    from.max(cells.len())
 }
 
 /// The first base from one on at which a family fits.
@@ -110,11 +120,11 @@ pub fn place(alloc: Global, keys: &[u64], count: usize) -> Result<PackedKeys, Al
     let mut bases = vec![in alloc; 0u64; count]?;
     let mut cells = Vec::new(alloc);
     let mut from = 0;
+    let mut free = 0;
     'families: while from < keys.len() {
         let upto = family_end(keys, from);
-        let lowest = cells
-            .len()
-            .saturating_sub(GAP + (keys[from] % PARTS) as usize);
+        free = first_free(&cells, cells.len().saturating_sub(GAP).max(free));
+        let lowest = free.saturating_sub((keys[from] % PARTS) as usize);
         let base = first_fit(&cells, &keys[from..upto], lowest);
         let last = (keys[upto - 1] % PARTS) as usize;
         grow(&mut cells, base + last + 1)?;

@@ -10,8 +10,8 @@ use pg_types::{Cursor, Sign};
 /// The windows of at most so many signs may be known by their codes.
 const CODED: usize = 3;
 
-/// The greatest length whose windows are known by their codes. A code needs no array of numbers and
-/// no step from length to length. Where there would be more codes than signs, most of them would be
+/// The greatest length whose windows are known by their codes. A code needs no step from length to
+/// length. Where there would be more codes than signs, most of them would be
 /// those of no window, so no length is coded.
 pub fn coded_length(greatest: Sign, size: usize) -> usize
     ensures most { result ≤ 3 }
@@ -38,29 +38,35 @@ pub fn count_codes(greatest: Sign, len: usize) -> usize
     }
 }
 
-/// The code of the window of so many signs at a start.
-#[inline(always)]
-pub fn code_of(signs: &[Sign], greatest: Sign, start: usize, len: usize) -> u32
-    requires len { (1 ≤ len) × (len ≤ 3) }
-    requires ends { start + len ≤ length signs.now }
-    requires greatest { (k : ℕ) → slice_index signs.now k ≤ greatest }
-    requires few { code_count (greatest + 1) len ≤ 2 ^ 32 }
-    ensures { result ≡ code_at signs.now (greatest + 1) start len }
+/// Writes the code of the window of one sign at each start: the sign.
+fn write_signs(signs: &[Sign], codes: &mut [u32])
+    requires { length codes.old ≡ length signs.now }
+    ensures { (i : ℕ) → i < length signs.now → slice_index codes.new i ≡ slice_index signs.now i }
 {
-    let radix = u32::from(greatest) + 1;
-    let first = u32::from(signs[start]);
-    if len == 1 {
-        return first;
+    'starts: for start in 0..signs.len() {
+        codes[start] = u32::from(signs[start]);
     }
-    let second = u32::from(signs[start + 1]);
-    if len == 2 {
-        return first * radix + second;
-    }
-    let third = u32::from(signs[start + 2]);
-    (first * radix + second) * radix + third
 }
 
-/// Writes the code of the window of so many signs at each start, where it fits.
+/// Takes the sign `at` signs behind each start into the code there, where so long a window fits.
+fn take_in(signs: &[Sign], greatest: Sign, at: usize, codes: &mut [u32])
+    requires size { length codes.old ≡ length signs.now }
+    requires greatest { (k : ℕ) → slice_index signs.now k ≤ greatest }
+    requires few { code_count (greatest + 1) (at + 1) ≤ 2 ^ 32 }
+    requires codes { (i : ℕ) → i + at ≤ length signs.now
+        → slice_index codes.old i ≡ code_at signs.now (greatest + 1) i at }
+    ensures { (i : ℕ) → i + (at + 1) ≤ length signs.now
+        → slice_index codes.new i ≡ code_at signs.now (greatest + 1) i (at + 1) }
+{
+    let radix = u32::from(greatest) + 1;
+    let end = signs.len().saturating_sub(at);
+    'starts: for start in 0..end {
+        codes[start] = codes[start] * radix + u32::from(signs[start + at]);
+    }
+}
+
+/// Writes the code of the window of so many signs at each start, where it fits. Sign by sign, all
+/// codes are made at once.
 pub fn write_codes(signs: &[Sign], greatest: Sign, len: usize, codes: &mut [u32])
     requires len { (1 ≤ len) × (len ≤ 3) }
     requires size { length codes.old ≡ length signs.now }
@@ -70,9 +76,9 @@ pub fn write_codes(signs: &[Sign], greatest: Sign, len: usize, codes: &mut [u32]
     ensures { (i : ℕ) → i + len ≤ length signs.now
         → slice_index codes.new i ≡ code_at signs.now (greatest + 1) i len }
 {
-    let end = (signs.len() + 1).saturating_sub(len);
-    'starts: for start in 0..end {
-        codes[start] = code_of(signs, greatest, start, len);
+    write_signs(signs, codes);
+    'signs: for at in 1..len {
+        take_in(signs, greatest, at, codes);
     }
 }
 

@@ -4,7 +4,7 @@ ghost use Rattle.pg_types.specs.Inside.Limits.{positions_limit};
 ghost use Rattle.pg_types.specs.declared.limits.TheConstants.{LENGTH_MAX};
 ghost use Rattle.pg_starts.specs.Inside.Codes.{code_at, code_count};
 
-use crate::codes::{code_of, coded_length, count_codes, decode, write_codes};
+use crate::codes::{coded_length, count_codes, decode, write_codes};
 use crate::steps::number_to;
 use pg_dots::{OpenDots, StartSet};
 use pg_types::{Cursor, Sign};
@@ -16,12 +16,12 @@ use std::mem;
 /// Numbers rise in the order of signs, and are equal exactly where windows are equal. So one number
 /// for each start serves all dots of a length.
 ///
-/// Windows of a few signs are known by their codes, and no number of theirs is kept. Longer ones
-/// get numbers in steps, from those that are shorter by a sign. A large alphabet has more codes
-/// than a short list has signs. There each length is made in such steps.
+/// The codes of windows of a few signs are their numbers. Longer ones get numbers in steps, from
+/// those that are shorter by a sign. A large alphabet has more codes than a short list has signs.
+/// There each length is made in such steps.
 #[derive(Drop)]
 pub struct StartNumbers {
-    /// The number of the window at each start, where it isn't its code.
+    /// The number of the window at each start.
     numbers: Vec<u32>,
     /// For each number, a start that has it.
     firsts: Vec<u32>,
@@ -87,9 +87,6 @@ impl StartNumbers {
         requires start { is_numbered signs.now self.now start ≡ true }
         ensures { result ≡ number_at signs.now self.now start }
     {
-        if self.len <= self.coded {
-            return code_of(signs, self.greatest, start, self.len);
-        }
         self.numbers[start]
     }
 
@@ -167,13 +164,18 @@ impl StartNumbers {
     }
 
     /// Takes the codes of the windows of `len` signs for their numbers.
-    fn take_codes(&mut self, signs: &[Sign], len: usize)
-        requires len { len ≤ self.old.coded }
+    fn take_codes(&mut self, signs: &[Sign], len: usize) -> Result<(), AllocError>
+        requires len { (1 ≤ len) × (len ≤ self.old.coded) }
         requires known { AreKnown signs.now self.old }
         ensures known { AreKnown signs.now self.new }
-        ensures done { (self.new.len ≡ len) × (self.new.coded ≡ self.old.coded) }
+        ensures coded { self.new.coded ≡ self.old.coded }
+        ensures done { OnOk result (self.new.len ≡ len) }
     {
+        self.len = 0;
+        self.numbers.resize(signs.len(), 0)?;
+        write_codes(signs, self.greatest, len, &mut self.numbers);
         self.len = len;
+        Ok(())
     }
 
     /// Numbers the windows of `len` signs whose start is before an open dot.
@@ -196,8 +198,7 @@ impl StartNumbers {
     {
         let size = usize::from(len);
         if size <= self.coded {
-            self.take_codes(signs, size);
-            return Ok(());
+            return self.take_codes(signs, size);
         }
         dots.set_starts(len, &mut self.next);
         self.number_next(alloc, signs, size)
@@ -215,8 +216,7 @@ impl StartNumbers {
     {
         let size = usize::from(len);
         if size <= self.coded {
-            self.take_codes(signs, size);
-            return Ok(());
+            return self.take_codes(signs, size);
         }
         let all = StartSet::all(alloc, signs.len())?;
         self.next = all;

@@ -36,7 +36,7 @@ windows_of signs n =
     if is_coded n then coded_windows (radix_of n) n.len
     else map (λ i. window_from signs i n.len) n.firsts.items
 
--- there are few codes, and where windows are numbered without them, they are so by their starts
+-- each start has the code of its window, where there are few codes, else a number among starts
 pub record AreKnown (signs : List ℕ) (n : StartNumbers) : Type 0 where
   pub small : length signs < positions_limit
   pub room : length signs ≤ starts_room n.starts
@@ -44,6 +44,8 @@ pub record AreKnown (signs : List ℕ) (n : StartNumbers) : Type 0 where
   pub greatest : (k : ℕ) → slice_index signs k ≤ n.greatest
   pub codes : (len : ℕ) → 1 ≤ len → len ≤ n.coded → code_count (radix_of n) len ≤ length signs
   pub few : n.coded < n.len → length n.firsts.items ≤ length signs
-  pub size : n.coded < n.len → length n.numbers.items ≡ length signs
+  pub size : 1 ≤ n.len → length n.numbers.items ≡ length signs
+  pub coded : 1 ≤ n.len → n.len ≤ n.coded → (i : ℕ) → i + n.len ≤ length signs
+      → slice_index n.numbers.items i ≡ code_at signs (radix_of n) i n.len
   pub numbers : n.coded < n.len → AreNumbers (window_order signs n.len)
       (has_window signs n.starts n.len) n.numbers.items n.firsts.items

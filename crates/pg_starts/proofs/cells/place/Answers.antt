@@ -33,7 +33,7 @@ families-preserved c =
           (c.families.invariant.bound c.families-test.true)
           (family_free keys cells from upto base family.within
           (subst (λ l. (k : ℕ) → k < length (take (upto - from) (drop from keys)) → IsFree l (cell_of base (get_or (take (upto - from) (drop from keys)) k 0)))
-          c.deref.ensures.value c.first_fit-base.ensures.free))
+          c.deref-in-families.ensures.value c.first_fit-base.ensures.free))
           (search rules)
           (search rules)
           (λ d h. c.in_ok-grow.ensures.kept d (omega (arith, cells_long, h)))

@@ -9,9 +9,14 @@ use Rattle.pg_starts.proofs.start_numbers.StartNumbers.number_open.Goals as goal
 pub returns-then-size-self-clause-done : goal.returns-then-size-self-clause-done
 returns-then-size-self-clause-done c =
     let n = c.take_codes.new.self in
-    let done = c.take_codes.ensures.done in
-    let len : n.len ≡ c.args.len = done.0 ∙ c.from-size.ensures in
-    (len, λ d i upto ends low free. coded_numbered c.args.signs.now n i (omega (arith, done, c.if-size-self.true)) (omega (arith, ends, len)))
+    on_ok_weaker c.take_codes.result
+    (λ done.
+    let len : n.len ≡ c.args.len = done ∙ c.from-size.ensures in (
+      len,
+      λ d i upto ends low free. coded_numbered c.args.signs.now n i
+          (omega (arith, done, c.take_codes.ensures.coded, c.if-size-self.true)) (omega (arith, ends, len)),
+    ))
+    c.take_codes.ensures.done
 
 pub returns-clause-done : goal.returns-clause-done
 returns-clause-done c =
