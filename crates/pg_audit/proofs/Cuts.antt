@@ -62,7 +62,7 @@ first_filled b bs = elim (cases_Bool (is_line_feed b)) [ inl here ↦ rw here (o
 
 -- a line that differs is the first difference
 pub step_other : (n b : ℕ) (bs due : List ℕ) → bytes_eq (first_whole (b ∷ bs)) (first_whole due) ≡ false → difference_from n (whole_lines (b ∷ bs)) (whole_lines due)
-    ≡ Some (record { line = n; found = first_whole (b ∷ bs) })
+    ≡ Some (n, first_whole (b ∷ bs))
 step_other n b bs [] other = ap (λ ls. difference_from n ls []) (cut_first b bs)
 step_other n b bs (w ∷ ws) other = rw (cut_first b bs, cut_first w ws, other) refl
 
@@ -77,7 +77,7 @@ step_same n b bs (w ∷ ws) same = rw (cut_first b bs, cut_first w ws, same) ref
 
 -- the same of a rest that is not empty
 pub other_first : (n : ℕ) (rest due : List ℕ) → (length rest == 0) ≡ false → not (bytes_eq (first_whole rest) (first_whole due)) ≡ true
-    → difference_from n (whole_lines rest) (whole_lines due) ≡ Some (record { line = n; found = first_whole rest })
+    → difference_from n (whole_lines rest) (whole_lines due) ≡ Some (n, first_whole rest)
 other_first n [] due filled other = cc
 other_first n (b ∷ bs) due filled other = step_other n b bs due (not-true _ other)
 
@@ -91,7 +91,7 @@ filled_first [] filled = cc
 filled_first (b ∷ bs) filled = first_filled b bs
 
 -- at the end of the given file a wanted line is missing
-pub given_ends : (n : ℕ) (rest due : List ℕ) → (length rest == 0) ≡ true → (length due == 0) ≡ false → difference_from n (whole_lines rest) (whole_lines due) ≡ Some (record { line = n; found = rest })
+pub given_ends : (n : ℕ) (rest due : List ℕ) → (length rest == 0) ≡ true → (length due == 0) ≡ false → difference_from n (whole_lines rest) (whole_lines due) ≡ Some (n, rest)
 given_ends n [] [] over more = cc
 given_ends n [] (w ∷ ws) over more = ap (λ ls. difference_from n [] ls) (cut_first w ws)
 given_ends n (b ∷ bs) due over more = let none : length (b ∷ bs) ≡ 0 = eqb-true _ _ over in absurd (omega arith)

@@ -88,7 +88,7 @@ part_from (suc fuel) n (b ∷ bs) wanted more few longer =
           let found : take (more + 1) (first_whole (b ∷ take (length wanted + more) bs)) ≡ take (more + 1) (first_whole (b ∷ bs)) =
           ap (take (more + 1)) (part_first (suc (length wanted + more)) (b ∷ bs)) ∙ take_within (more + 1) (suc (length wanted + more)) (first_whole (b ∷ bs)) (omega arith) in
           ap (option_map (shown_difference (more + 1))) (step_other n b (take (length wanted + more) bs) wanted (other_part (length wanted + more) b bs wanted (omega arith) other))
-          ∙ ap (λ r. Some (record { line = n; found = r })) found
+          ∙ ap (λ r. Some (n, r)) found
           ∙ sym (ap (option_map (shown_difference (more + 1))) (step_other n b bs wanted other))
     ])
 

@@ -5,7 +5,7 @@ use Rattle.std.proofs.lemmas.Bool.{cases_Bool}
 use Rattle.std.proofs.lemmas.Bool.Decides.{nat_tests}
 use Rattle.std.proofs.lemmas.List.{take_all, length-take}
 use Rattle.pg_types.specs.Lines.{is_line_feed}
-use Rattle.pg_audit.specs.Differences.{Difference, first_false}
+use Rattle.pg_audit.specs.Differences.{first_false}
 use Rattle.pg_audit.specs.FoundLines.{found_text}
 use Rattle.pg_audit.specs.declared.lines.TheConstants.{SHOWN_MAX}
 use Rattle.pg_audit.specs.Inside.FirstFalse.{shown_difference, printed_of}
@@ -44,15 +44,15 @@ part_prints n line enough = elim (cases_Bool (nat_lt n (length line))) [
 same_printed : (n : ℕ) (f g : List ℕ) → SHOWN_MAX + 2 ≤ n → take n f ≡ take n g → found_text f ≡ found_text g
 same_printed n f g enough same = sym (part_prints n f enough) ∙ ap found_text same ∙ part_prints n g enough
 
-same_differences : (n : ℕ) (a b : Option Difference) → SHOWN_MAX + 2 ≤ n → option_map (shown_difference n) a ≡ option_map (shown_difference n) b → option_map printed_of a ≡ option_map printed_of b
+same_differences : (n : ℕ) (a b : Option (ℕ × List ℕ)) → SHOWN_MAX + 2 ≤ n → option_map (shown_difference n) a ≡ option_map (shown_difference n) b → option_map printed_of a ≡ option_map printed_of b
 same_differences n None None enough same = refl
 same_differences n None (Some b) enough same = cc
 same_differences n (Some a) None enough same = cc
 same_differences n (Some a) (Some b) enough same =
     let parts : shown_difference n a ≡ shown_difference n b = cc in
-    let line : a.line ≡ b.line = ap (λ (d : Difference). d.line) parts in
-    let bytes : take n a.found ≡ take n b.found = ap (λ (d : Difference). d.found) parts in
-    let found : found_text a.found ≡ found_text b.found = same_printed n a.found b.found enough bytes in
+    let line : a.0 ≡ b.0 = ap (λ (d : ℕ × List ℕ). d.0) parts in
+    let bytes : take n a.1 ≡ take n b.1 = ap (λ (d : ℕ × List ℕ). d.1) parts in
+    let found : found_text a.1 ≡ found_text b.1 = same_printed n a.1 b.1 enough bytes in
     cc
 
 -- of a longer file the first part prints the same false line as the whole

@@ -27,10 +27,10 @@ pub struct FalseLine<'a> {
 pub fn compare<'a>(given: &'a [u8], wanted: &[u8]) -> Option<FalseLine<'a>>
     ensures answer { MatchOption result (first_false given.now wanted.now ≡ None)
         (λ f. first_false given.now wanted.now
-        ≡ Some (record { line = f.line; found = f.found.now })) }
+        ≡ Some (f.line, f.found.now)) }
     ensures equal { IsNone result ↔ (given.now ≡ wanted.now) }
     ensures least { IfSome result
-        (λ f. IsFirstFalse given.now wanted.now (record { line = f.line; found = f.found.now })) }
+        (λ f. IsFirstFalse given.now wanted.now (f.line, f.found.now)) }
     ensures missing { IfSome result
         (λ f. (f.found.now ≡ []) ↔ (length (whole_lines given.now) + 1 ≡ f.line)) }
     ensures within { IfSome result (λ f. length f.found.now ≤ length given.now) }

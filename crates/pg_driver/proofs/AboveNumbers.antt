@@ -8,11 +8,13 @@ use Rattle.std.proofs.lemmas.Option.{slice_get_past}
 use Rattle.pg_types.specs.declared.parameters.LevelParams.{LevelParams}
 use Rattle.pg_types.specs.Inside.counting.Counts.{Counts, counted_sums, is_counted}
 use Rattle.pg_types.specs.Inside.counting.NumberedWindows.{Windows, HasNumber}
+use Rattle.pg_translate.specs.Alphabets.{Alphabet}
 use Rattle.pg_dict.specs.Word.{Word}
 use Rattle.pg_select.specs.declared.choice.Choice.{Choice}
 use Rattle.pg_select.specs.declared.pass.Pass.{Pass}
 use Rattle.pg_select.specs.Inside.Choices.{choice}
-use Rattle.pg_select.specs.CountedPositions.{Minima, CountedPosition, good_of, bad_of, counted_at, counted_positions, counts_as}
+use Rattle.pg_select.specs.CountedPositions.{counted_at, counts_as}
+use Rattle.pg_select.specs.Inside.words.PositionLists.{CountedPosition, good_of, bad_of, counted_positions}
 use Rattle.pg_select.specs.Inside.laws.AboveLevel.{counts_above}
 use Rattle.pg_select.specs.Inside.laws.ClosedDots.{is_good}
 use Rattle.pg_select.specs.Inside.engine.Meanings.{Meaning, with_position}
@@ -103,7 +105,7 @@ number_noted pass P H words ws entries ns more w word p number at gets noted hav
         (numbered_by pass P H words ws w word p number at (counts refl) gets)
 
 -- once a pass is counted, what is not covered is what is counted
-covered_not_counted : (m : Minima) (words : List Word) (pass : Pass) (P : Patterns) (H : Hopeless) (counts : Counts) (u : List ℕ) → counts
+covered_not_counted : (m : Alphabet) (words : List Word) (pass : Pass) (P : Patterns) (H : Hopeless) (counts : Counts) (u : List ℕ) → counts
     ≡ fold with_position [] (counted_positions m words pass P H) → is_covered pass.level P H u pass.dot ≡ true → is_counted counts u ≡ false
 covered_not_counted m words pass P H counts u are is =
     ap (λ (cs : Counts). is_counted cs u) are
@@ -137,7 +139,7 @@ module _ (pass : Pass) (P : Patterns) (H : Hopeless) (words : List Word) (counts
     uncounted = λ w at lack. not_counted w at (uncovered_at pass P H w e) refl;
   }
 
-pub numbered_as_counted : (m : Minima) (words : List Word) (pass : Pass) (P : Patterns) (H : Hopeless) (counts : Counts) (ws : Windows) (entries : List WordPosition) (ns : List ℕ)
+pub numbered_as_counted : (m : Alphabet) (words : List Word) (pass : Pass) (P : Patterns) (H : Hopeless) (counts : Counts) (ws : Windows) (entries : List WordPosition) (ns : List ℕ)
     → counts ≡ fold with_position [] (counted_positions m words pass P H)
     → HaveNumbers pass (uncovered_at pass P H) words ws entries ns → HaveNumbers pass (is_counted_at pass counts) words ws entries ns
 numbered_as_counted m words pass P H counts ws entries ns counted have = record {

@@ -1,14 +1,15 @@
 -- Totals that are carried from pass to pass.
-use Rattle.std.proofs.Common.{◌≡◌, ℕ, ◌^◌, ◌≤◌, ◌<◌, Bool, true, false, arith}
+use Rattle.std.proofs.Common.{◌≡◌, ℕ, ◌^◌, ◌≤◌, ◌<◌, Bool, true, false, List, arith}
 use Rattle.std.specs.Bool.{MatchBool}
 use Rattle.pg_types.specs.declared.marks.Totals.{Totals}
+use Rattle.pg_dict.specs.Word.{Word}
+use Rattle.pg_translate.specs.Alphabets.{Alphabet}
+use Rattle.pg_select.specs.Sums.{totals as totals_by}
 use Rattle.pg_patterns.specs.Values.{Patterns}
 use Rattle.pg_select.proofs.LawsSums.{totals_small_within}
-use Rattle.pg_driver.specs.Accounts.{totals_by}
 use Rattle.pg_driver.specs.Inside.counting.Counting.{IsBounded}
 use Rattle.pg_driver.specs.Inside.counting.LevelCounting.{Carries}
 use Rattle.pg_driver.specs.Inside.records.SoundRecords.{IsSmall}
-use Rattle.pg_driver.specs.Traces.{Source}
 
 same_totals : (a b : Totals) → a.good ≡ b.good → a.bad ≡ b.bad → a.missed ≡ b.missed → a ≡ b
 same_totals a b p q r = λ i. record { good = p i; bad = q i; missed = r i }
@@ -29,5 +30,5 @@ carried_small true old new good bad small less carries = (omega (arith, carries.
 carried_small false old new good bad small less carries = (omega (arith, carries.errors), omega (arith, carries.found))
 
 -- and so are the totals of the words of a dictionary
-pub totals_are_small : (source : Source) (P : Patterns) → IsBounded source → IsSmall (totals_by source P)
-totals_are_small source P bounded = totals_small_within source.minima source.words P bounded.reached bounded.few
+pub totals_are_small : (T : Alphabet) (W : List Word) (P : Patterns) → IsBounded T W → IsSmall (totals_by T W P)
+totals_are_small T W P bounded = totals_small_within T W P bounded.reached bounded.few

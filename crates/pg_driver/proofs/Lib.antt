@@ -6,6 +6,7 @@ pub mod Walks
 pub mod WordSteps
 pub mod FateLaws
 pub mod ChoiceSteps
+pub mod ListedTraces
 pub mod PassSteps
 pub mod TraceSteps
 pub mod RecordSteps

@@ -8,13 +8,14 @@ use Rattle.std.proofs.lemmas.List.Concat.{flat_map-append}
 use Rattle.std.proofs.lemmas.List.Elements.{filter-append}
 use Rattle.std.proofs.lemmas.List.Sums.{sum_by-cons}
 use Rattle.pg_types.specs.declared.limits.TheConstants.{LENGTH_MAX}
+use Rattle.pg_translate.specs.Alphabets.{Alphabet}
 use Rattle.pg_translate.specs.Reach.{positions}
 use Rattle.pg_dict.specs.Word.{Word}
 use Rattle.pg_dict.specs.Inside.SoundWords.{letter_count}
 use Rattle.pg_patterns.specs.Values.{Patterns}
 use Rattle.pg_select.specs.Inside.laws.Laws.{number_of_positions}
 use Rattle.pg_select.specs.Inside.laws.ClosedDots.{counted_with, is_good, pass_at}
-use Rattle.pg_select.specs.CountedPositions.{Minima, CountedPosition, counted_positions_at, counted_positions}
+use Rattle.pg_select.specs.Inside.words.PositionLists.{CountedPosition, counted_positions_at, counted_positions}
 use Rattle.pg_select.specs.Inside.words.WordCounts.{counted_positions_in}
 use Rattle.pg_select.specs.Statuses.{position_weight}
 use Rattle.pg_select.specs.Windows.{Hopeless, window, fits}
@@ -87,7 +88,7 @@ split : {X Y : Type 0} (f : X → List Y) (g : ℕ → X) (b : Bool) (p : ℕ) (
 split f g true p xs = ap (λ ys. ys ++ flat_map f (map g xs)) (sym (append-nil (f (g p))))
 split f g false p xs = refl
 
-module _ (level len dot : ℕ) (m : Minima) (words : List Word) (P : Patterns) (H : Hopeless) (closed : ℕ → Bool) (dots : ℕ → ℕ → Bool)
+module _ (level len dot : ℕ) (m : Alphabet) (words : List Word) (P : Patterns) (H : Hopeless) (closed : ℕ → Bool) (dots : ℕ → ℕ → Bool)
     (is : (s : ℕ) → dots dot s ≡ closed s) (short : len ≤ LENGTH_MAX) (within : dot ≤ len) where
   -- a position
   counted_one : (n p : ℕ) (w : Word) (c : ℕ → Bool) → slice_get words n ≡ Some w → DotsTell level len m P H w p c
@@ -189,7 +190,7 @@ module _ (level len dot : ℕ) (m : Minima) (words : List Word) (P : Patterns) (
       ∙ ap (λ (xs : List ℕ). flat_map f (map g (filter test xs))) (sym (range_append 0 size (sign_count ws)) ∙ ap (range_with_len 0) (sym (signs_cons w ws)))
 
 -- what a pass counts
-pub counted_there : (level len dot : ℕ) (m : Minima) (words : List Word) (P : Patterns) (H : Hopeless) (dots : ℕ → ℕ → Bool) → len ≤ LENGTH_MAX → dot ≤ len → IsLevelAt level len m words P H dots
+pub counted_there : (level len dot : ℕ) (m : Alphabet) (words : List Word) (P : Patterns) (H : Hopeless) (dots : ℕ → ℕ → Bool) → len ≤ LENGTH_MAX → dot ≤ len → IsLevelAt level len m words P H dots
     → counted_positions m words (pass_at level len dot) P H ≡ flat_map (counted_of (pass_at level len dot) words) (open_word_positions (dots dot) words)
 counted_there level len dot m words P H dots short within is =
     counted_words level len dot m words P H (dots dot) dots (λ s. refl) short within 0 0 words (λ k w at. ap (slice_get words) (zero_plus k) ∙ at)
@@ -220,7 +221,7 @@ singles : (xs : List ℕ) → length (flat_map (λ (p : ℕ). p ∷ []) xs) ≡ 
 singles [] = refl
 singles (x ∷ xs) = ap suc (singles xs)
 
-few_words : (m : Minima) (closed : ℕ → Bool) (start : ℕ) (ws : List Word)
+few_words : (m : Alphabet) (closed : ℕ → Bool) (start : ℕ) (ws : List Word)
     → ((k p : ℕ) (w : Word) → slice_get ws k ≡ Some w → p < length w.signs → is_in_reach m w p ≡ false → closed (start + (start_of ws k + p)) ≡ true)
     → length (filter (λ s. not (closed (start + s))) (range_with_len 0 (sign_count ws))) ≤ number_of_positions m ws
 few_words m closed start [] out = omega arith
@@ -255,7 +256,7 @@ few_words m closed start (w ∷ ws) out =
         both true rest = ap suc rest
         both false rest = rest
 
-pub few_there : (level len dot : ℕ) (m : Minima) (words : List Word) (P : Patterns) (H : Hopeless) (dots : ℕ → ℕ → Bool) → len ≤ LENGTH_MAX → dot ≤ len
+pub few_there : (level len dot : ℕ) (m : Alphabet) (words : List Word) (P : Patterns) (H : Hopeless) (dots : ℕ → ℕ → Bool) → len ≤ LENGTH_MAX → dot ≤ len
     → number_of_positions m words ≤ sum_by letter_count words → IsLevelAt level len m words P H dots
     → length (open_signs (dots dot) 0 (sign_count words)) ≤ sum_by letter_count words
 few_there level len dot m words P H dots short within reached is =

@@ -4,10 +4,11 @@ use Rattle.std.specs.List.{list_any, range_with_len}
 use Rattle.std.specs.Option.{option_map_or}
 use Rattle.std.proofs.lemmas.Bool.{cases_eq, cases_lt, eq-eqb, ne_eqb, lt-ltb, le-ltb, leb-true}
 use Rattle.pg_types.specs.declared.marks.Mark.TheVariants.{Nothing, Error, Missed, Found, DontCare}
+use Rattle.pg_translate.specs.Alphabets.{Alphabet}
 use Rattle.pg_translate.specs.Reach.{positions}
 use Rattle.pg_dict.specs.Word.{Word}
 use Rattle.pg_patterns.specs.Values.{Patterns, value_at}
-use Rattle.pg_select.specs.CountedPositions.{Minima, counts_as}
+use Rattle.pg_select.specs.CountedPositions.{counts_as}
 use Rattle.pg_select.specs.Statuses.{is_odd, status_at}
 use Rattle.pg_driver.specs.Inside.counting.OpenSigns.{has_care, is_in_reach}
 use Rattle.pg_driver.proofs.OpenCounted.{any_above, any_below, any_inside}
@@ -21,10 +22,10 @@ zero_out left right size = by (nat_le (left + right + 2) size)
     by false = refl
 
 -- a position is in reach and passes a test, as whether it counts by its status or has care
-abbrev pub passes : Minima → Word → (ℕ → Bool) → ℕ → Bool
+abbrev pub passes : Alphabet → Word → (ℕ → Bool) → ℕ → Bool
 passes m w test q = is_in_reach m w q && test q
 
-module _ (m : Minima) (w : Word) (test : ℕ → Bool) (first end : ℕ) (is : positions m.left m.right (length w.signs) ≡ range_with_len first (end - first)) where
+module _ (m : Alphabet) (w : Word) (test : ℕ → Bool) (first end : ℕ) (is : positions m.left m.right (length w.signs) ≡ range_with_len first (end - first)) where
   reach_is : (q : ℕ) → is_in_reach m w q ≡ list_any (nat_eq q) (range_with_len first (end - first))
   reach_is q = ap (list_any (nat_eq q)) is
 
@@ -82,7 +83,7 @@ module _ (m : Minima) (w : Word) (test : ℕ → Bool) (first end : ℕ) (is : p
   ]
 
 -- behind a word nothing opens
-pub opens_behind : (m : Minima) (w : Word) (test : ℕ → Bool) (q : ℕ) (old : Bool) → length w.signs ≤ q → (not (passes m w test q) && old) ≡ old
+pub opens_behind : (m : Alphabet) (w : Word) (test : ℕ → Bool) (q : ℕ) (old : Bool) → length w.signs ≤ q → (not (passes m w test q) && old) ≡ old
 opens_behind m w test q old past = ap (λ b. not (b && test q) && old) (by (nat_le (m.left + m.right + 2) (length w.signs)) (leb-true (m.left + m.right + 2) (length w.signs)))
   where
     by : (b : Bool) → (b ≡ true → m.left + m.right + 2 ≤ length w.signs)
@@ -91,7 +92,7 @@ opens_behind m w test q old past = ap (λ b. not (b && test q) && old) (by (nat_
     by false enough = refl
 
 -- signs before a word stay as they are
-pub opens_before : (m : Minima) (w : Word) (test : ℕ → Bool) (start s : ℕ) (old : Bool) → s < start → (not (passes m w test (s - start)) && old) ≡ old
+pub opens_before : (m : Alphabet) (w : Word) (test : ℕ → Bool) (start s : ℕ) (old : Bool) → s < start → (not (passes m w test (s - start)) && old) ≡ old
 opens_before m w test start s old before =
     let none : s - start ≡ 0 = omega arith in
     ap (λ q. not (is_in_reach m w q && test q) && old) none

@@ -6,6 +6,7 @@ use Rattle.pg_types.specs.declared.limits.TheConstants.{LENGTH_MAX}
 use Rattle.pg_types.specs.declared.parameters.LevelParams.{LevelParams}
 use Rattle.pg_types.specs.Inside.counting.Counts.{Counts, counted_sums}
 use Rattle.pg_types.specs.declared.marks.Mark.{Mark}
+use Rattle.pg_translate.specs.Alphabets.{Alphabet}
 use Rattle.pg_dict.specs.Word.{Word}
 use Rattle.pg_patterns.specs.Values.{Patterns, value_at}
 use Rattle.pg_select.specs.declared.choice.Choice.{Choice}
@@ -15,7 +16,8 @@ use Rattle.pg_select.specs.Inside.Choices.{choice}
 use Rattle.pg_select.specs.Inside.laws.Steps.{IsBelow, IsUpTo, candidate_at, is_candidate, patterns_after_pass, hopeless_after_pass}
 use Rattle.pg_select.specs.Inside.laws.ClosedDots.{counted_with, is_good, closed_at_next_length, pass_at, TellCounted, closed_after as dots_after_pass}
 use Rattle.pg_select.specs.Inside.engine.Meanings.{with_position}
-use Rattle.pg_select.specs.CountedPositions.{Minima, Candidate, counted_at, counts_as, good_of, bad_of, counted_positions}
+use Rattle.pg_select.specs.CountedPositions.{Candidate, counted_at, counts_as}
+use Rattle.pg_select.specs.Inside.words.PositionLists.{good_of, bad_of, counted_positions}
 use Rattle.pg_select.specs.Statuses.{status, status_at}
 use Rattle.pg_select.specs.Windows.{Hopeless, window, fits, is_covered}
 use Rattle.pg_select.proofs.LawsBounds.{up_to_at_start, up_to_after, covers_up_to_at_start, covers_up_to_longer, covers_up_to_after}
@@ -35,14 +37,14 @@ pub tells_same : (level len : ℕ) (P : Patterns) (H : Hopeless) (w : Word) (p :
     → TellCounted level len P H w p b
 tells_same level len P H w p a b same tells d within = tells d within ∙ ap (λ c. counted_with level w p len d c) (same d within)
 
-told_same : (level len : ℕ) (m : Minima) (P : Patterns) (H : Hopeless) (w : Word) (p : ℕ) (a b : ℕ → Bool) → ((d : ℕ) → d ≤ LENGTH_MAX → a d ≡ b d)
+told_same : (level len : ℕ) (m : Alphabet) (P : Patterns) (H : Hopeless) (w : Word) (p : ℕ) (a b : ℕ → Bool) → ((d : ℕ) → d ≤ LENGTH_MAX → a d ≡ b d)
     → DotsTell level len m P H w p a → DotsTell level len m P H w p b
 told_same level len m P H w p a b same is = record {
   inside = λ reach. tells_same level len P H w p a b same (is.inside reach);
   outside = λ reach d within. sym (same d within) ∙ is.outside reach d within;
 }
 
-pub there_same : (level len : ℕ) (m : Minima) (words : List Word) (P : Patterns) (H : Hopeless) (old new : ℕ → ℕ → Bool)
+pub there_same : (level len : ℕ) (m : Alphabet) (words : List Word) (P : Patterns) (H : Hopeless) (old new : ℕ → ℕ → Bool)
     → ((d s : ℕ) → s < sign_count words → new d s ≡ old d s) → IsLevelAt level len m words P H old → IsLevelAt level len m words P H new
 there_same level len m words P H old new same is = record {
   short = is.short;
@@ -54,7 +56,7 @@ there_same level len m words P H old new same is = record {
 }
 
 -- a level begins
-pub there_first : (level len : ℕ) (m : Minima) (words : List Word) (P : Patterns) (closed : ℕ → ℕ → Bool) → IsBelow level P
+pub there_first : (level len : ℕ) (m : Alphabet) (words : List Word) (P : Patterns) (closed : ℕ → ℕ → Bool) → IsBelow level P
     → ((d n p : ℕ) (w : Word) → slice_get words n ≡ Some w → p < length w.signs → closed d (start_of words n + p) ≡ not (is_open_first m level P w p)) → IsLevelAt level len m words P [] closed
 there_first level len m words P closed below is = record {
   short = covers_up_to_at_start level len P below;
@@ -85,7 +87,7 @@ there_first level len m words P closed below is = record {
     }
 
 -- a level goes on to the next length
-pub there_longer : (level len : ℕ) (m : Minima) (words : List Word) (P : Patterns) (H : Hopeless) (old new : ℕ → ℕ → Bool)
+pub there_longer : (level len : ℕ) (m : Alphabet) (words : List Word) (P : Patterns) (H : Hopeless) (old new : ℕ → ℕ → Bool)
     → ((d s : ℕ) → d ≤ LENGTH_MAX → s < sign_count words → new d s ≡ (old d s || (nat_le 1 d && old (d - 1) s)))
     → ((s : ℕ) → s < sign_count words → new dot_of_no_pass s ≡ old dot_of_no_pass s) → IsLevelAt level len m words P H old → IsLevelAt level (len + 1) m words P H new
 there_longer level len m words P H old new on stays is = record {
@@ -106,7 +108,7 @@ there_longer level len m words P H old new on stays is = record {
     first false b is = absurd (let wrong : false ≡ true = is in cc)
 
 -- a level goes on after a pass
-module _ (level : LevelParams) (m : Minima) (words : List Word) (pass : Pass) (P : Patterns) (H : Hopeless) (counts : Counts) (low : pass.dot ≤ LENGTH_MAX)
+module _ (level : LevelParams) (m : Alphabet) (words : List Word) (pass : Pass) (P : Patterns) (H : Hopeless) (counts : Counts) (low : pass.dot ≤ LENGTH_MAX)
     (counted : counts ≡ fold with_position [] (counted_positions m words pass P H)) where
   abbrev chosen : Candidate → Bool
   chosen c = is_chosen level c

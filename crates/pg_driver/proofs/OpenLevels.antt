@@ -4,16 +4,17 @@ use Rattle.std.specs.List.{flat_map}
 use Rattle.std.specs.Option.{option_map_or}
 use Rattle.std.specs.FinMap.Entries.{find}
 use Rattle.std.proofs.lemmas.List.Concat.{flat_map-append}
+use Rattle.pg_translate.specs.Alphabets.{Alphabet}
 use Rattle.pg_translate.specs.Reach.{positions}
 use Rattle.pg_dict.specs.Word.{Word}
 use Rattle.pg_select.specs.Inside.engine.Meanings.{with_position}
-use Rattle.pg_select.specs.CountedPositions.{Minima, CountedPosition, good_of, bad_of}
+use Rattle.pg_select.specs.Inside.words.PositionLists.{CountedPosition, good_of, bad_of}
 use Rattle.pg_select.proofs.LawsCounts.{cmp, is_counted_window, sums_found}
 use Rattle.pg_driver.specs.Inside.counting.OpenPositions.{numbered_positions, open_with}
 use Rattle.pg_driver.specs.Inside.counting.OpenLevels.{listed_from, open_as}
 
 -- the listed positions of words, as entries of their positions
-module _ (m : Minima) (words : List Word) (counts : Word → ℕ → Option Bool) where
+module _ (m : Alphabet) (words : List Word) (counts : Word → ℕ → Option Bool) where
   -- whether a position of a word is listed, where there is such a word
   abbrev start_in : ℕ → Option Word → Option Bool
   start_in p None = None

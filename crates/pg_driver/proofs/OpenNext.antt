@@ -3,9 +3,9 @@ use Rattle.std.proofs.Common.{◌≡◌, ℕ, ◌-◌, ◌≤◌, ◌%◌, Bool,
 use Rattle.std.proofs.lemmas.Bool.{cases_eq, eq-eqb, ne_eqb}
 use Rattle.pg_types.specs.declared.marks.Mark.{Mark}
 use Rattle.pg_types.specs.declared.marks.Mark.TheVariants.{Nothing, Error, Missed, Found, DontCare}
+use Rattle.pg_translate.specs.Alphabets.{Alphabet}
 use Rattle.pg_dict.specs.Word.{Word}
 use Rattle.pg_patterns.specs.Values.{Patterns, value_at}
-use Rattle.pg_select.specs.CountedPositions.{Minima}
 use Rattle.pg_select.specs.Statuses.{is_odd, status_at}
 use Rattle.pg_select.proofs.LawsClosedDots.{counted_by, counts_by}
 use Rattle.pg_driver.specs.Inside.counting.OpenSigns.{is_in_reach, is_open_first, takes_part}
@@ -32,7 +32,7 @@ odd_next level some = elim (cases_eq (level % 2) 1) [
 ]
 
 -- a position that takes part counts at a level where it did not count at the level before
-pub next_open : (m : Minima) (level : ℕ) (P : Patterns) (w : Word) (p : ℕ) → 1 ≤ level
+pub next_open : (m : Alphabet) (level : ℕ) (P : Patterns) (w : Word) (p : ℕ) → 1 ≤ level
     → (not (not (is_open_first m (level - 1) P w p)) || not (takes_part m w p)) ≡ not (is_open_first m level P w p)
 next_open m level P w p some =
     let mark : Mark = status_at P w p in

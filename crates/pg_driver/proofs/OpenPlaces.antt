@@ -7,14 +7,13 @@ use Rattle.std.proofs.lemmas.List.{length-append, length-map}
 use Rattle.std.proofs.lemmas.List.Elements.{All-nil, All-cons, All-head, All-tail, All-append, All-map, All-same, All-weaker}
 use Rattle.std.proofs.lemmas.List.Sums.{sum_by-cons}
 use Rattle.std.proofs.lemmas.Option.{slice_get_within}
+use Rattle.pg_translate.specs.Alphabets.{Alphabet}
 use Rattle.pg_translate.specs.Reach.{positions}
 use Rattle.pg_dict.specs.Word.{Word}
 use Rattle.pg_dict.specs.Inside.SoundWords.{letter_count}
 use Rattle.pg_select.specs.Inside.laws.Laws.{number_of_positions}
-use Rattle.pg_select.specs.CountedPositions.{Minima}
 use Rattle.pg_driver.specs.declared.pass_windows.WordPosition.{WordPosition}
-use Rattle.pg_driver.specs.Inside.counting.OpenPositions.{numbered_positions, open_with}
-use Rattle.pg_driver.specs.Inside.counting.OpenPositions.{IsInWord}
+use Rattle.pg_driver.specs.Inside.counting.OpenPositions.{numbered_positions, open_with, IsInWord}
 
 all_flat : {X Y : Type 0} (P : Y → Type 0) (Q : X → Type 0) (f : X → List Y) → ((x : X) → Q x → All P (f x)) → (xs : List X) → All Q xs → All P (flat_map f xs)
 all_flat P Q f each [] all = All-nil P
@@ -36,7 +35,7 @@ record IsNumbered (words : List Word) (s : ℕ × ℕ) : Type 0 where
   word : s.0 < length words
   within : (w : Word) → slice_get words s.0 ≡ Some w → s.1 < length w.signs
 
-numbered_in : (m : Minima) (words : List Word) (n : ℕ) (ws : List Word) → ((k : ℕ) (w : Word) → slice_get ws k ≡ Some w → slice_get words (n + k) ≡ Some w)
+numbered_in : (m : Alphabet) (words : List Word) (n : ℕ) (ws : List Word) → ((k : ℕ) (w : Word) → slice_get ws k ≡ Some w → slice_get words (n + k) ≡ Some w)
     → All (IsNumbered words) (numbered_positions m n ws)
 numbered_in m words n [] place = All-nil (IsNumbered words)
 numbered_in m words n (w ∷ ws) place =
@@ -71,7 +70,7 @@ placed_with words listed s here_in = by_listed (listed s.0 s.1)
     by_listed (Some good) = All-cons (IsInWord words) (record { word = s.0; at = s.1 }) [] (record { word = here_in.word; within = here_in.within }) (All-nil (IsInWord words))
 
 -- entries stand in the words
-pub entries_placed : (m : Minima) (words : List Word) (listed : ℕ → ℕ → Option Bool) (entries : List WordPosition) → entries
+pub entries_placed : (m : Alphabet) (words : List Word) (listed : ℕ → ℕ → Option Bool) (entries : List WordPosition) → entries
     ≡ flat_map (open_with listed) (numbered_positions m 0 words) → All (IsInWord words) entries
 entries_placed m words listed entries are =
     All-same (IsInWord words) entries (flat_map (open_with listed) (numbered_positions m 0 words)) are
@@ -92,7 +91,7 @@ few_open listed (s ∷ numbered) =
     one None = omega arith
     one (Some good) = omega arith
 
-numbered_length : (m : Minima) (n : ℕ) (words : List Word) → length (numbered_positions m n words) ≡ number_of_positions m words
+numbered_length : (m : Alphabet) (n : ℕ) (words : List Word) → length (numbered_positions m n words) ≡ number_of_positions m words
 numbered_length m n [] = refl
 numbered_length m n (w ∷ words) =
     let rest : length (numbered_positions m (n + 1) words) ≡ number_of_positions m words = numbered_length m (n + 1) words in
@@ -106,7 +105,7 @@ numbered_length m n (w ∷ words) =
     )
 
 -- and there are no more than letters
-pub entries_few : (m : Minima) (words : List Word) (listed : ℕ → ℕ → Option Bool) (entries : List WordPosition) → number_of_positions m words ≤ sum_by letter_count words
+pub entries_few : (m : Alphabet) (words : List Word) (listed : ℕ → ℕ → Option Bool) (entries : List WordPosition) → number_of_positions m words ≤ sum_by letter_count words
     → entries ≡ flat_map (open_with listed) (numbered_positions m 0 words) → length entries ≤ sum_by letter_count words
 entries_few m words listed entries reached are =
     omega (arith, ap (λ (es : List WordPosition). length es) are, few_open listed (numbered_positions m 0 words), numbered_length m 0 words)

@@ -2,14 +2,15 @@
 use Rattle.std.proofs.Common.{◌≡◌, ℕ, suc, ◌+◌, Bool, List, [], ◌∷◌, ◌++◌, length, map, slice_get, Option, Some, refl, sym, ap, ◌∙◌, arith}
 use Rattle.std.specs.List.{flat_map}
 use Rattle.std.proofs.lemmas.List.Concat.{flat_map-append}
+use Rattle.pg_translate.specs.Alphabets.{Alphabet}
 use Rattle.pg_translate.specs.Reach.{positions}
 use Rattle.pg_dict.specs.Word.{Word}
-use Rattle.pg_select.specs.CountedPositions.{Minima, CountedPosition}
+use Rattle.pg_select.specs.Inside.words.PositionLists.{CountedPosition}
 use Rattle.pg_driver.specs.declared.pass_windows.WordPosition.{WordPosition}
 use Rattle.pg_driver.specs.Inside.counting.OpenPositions.{numbered_positions, open_with}
 
 -- what is counted at the positions of words, by the entries that stand for them
-module _ (m : Minima) (words : List Word) (listed : ℕ → ℕ → Option Bool) (at_entry : WordPosition → List CountedPosition) (at_position : Word → ℕ → List CountedPosition)
+module _ (m : Alphabet) (words : List Word) (listed : ℕ → ℕ → Option Bool) (at_entry : WordPosition → List CountedPosition) (at_position : Word → ℕ → List CountedPosition)
     (each : (n p : ℕ) (w : Word) → slice_get words n ≡ Some w → at_position w p ≡ flat_map at_entry (open_with listed (n, p))) where
   counted_word : (n : ℕ) (w : Word) → slice_get words n ≡ Some w → (ps : List ℕ) → flat_map (at_position w) ps ≡ flat_map at_entry (flat_map (open_with listed) (map (λ p. (n, p)) ps))
   counted_word n w at [] = refl

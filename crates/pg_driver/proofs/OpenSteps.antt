@@ -5,11 +5,11 @@ use Rattle.std.proofs.lemmas.List.Elements.{All-head, All-tail}
 use Rattle.std.proofs.lemmas.List.Sums.{sum_by-cons}
 use Rattle.std.specs.Option.{IfSome, option_map_or}
 use Rattle.std.specs.FinMap.Entries.{find}
+use Rattle.pg_translate.specs.Alphabets.{Alphabet}
 use Rattle.pg_dict.specs.Word.{Word}
 use Rattle.pg_dict.specs.Inside.SoundWords.{IsWord, letter_count}
 use Rattle.pg_types.specs.Inside.counting.Counts.{Counts}
 use Rattle.pg_select.specs.Inside.engine.Meanings.{with_position}
-use Rattle.pg_select.specs.CountedPositions.{Minima}
 use Rattle.pg_select.specs.Statuses.{position_weight}
 use Rattle.pg_select.specs.Windows.{window, fits}
 use Rattle.pg_driver.specs.Inside.counting.Counting.{HasRoom, TookRoom}
@@ -70,7 +70,7 @@ few_words (w ∷ words) all =
     omega (arith, sum_by-cons letter_count w words, word.long)
 
 -- the positions of one word more
-pub word_added : (m : Minima) (counts : Word → ℕ → Option Bool) (items more whole : List WordPosition) (words : List Word) (i : ℕ) (w : Word)
+pub word_added : (m : Alphabet) (counts : Word → ℕ → Option Bool) (items more whole : List WordPosition) (words : List Word) (i : ℕ) (w : Word)
     → slice_get words i ≡ Some w → more ≡ items ++ listed_in m counts i w → items ++ listed_from m counts i (drop i words) ≡ whole
     → more ++ listed_from m counts (i + 1) (drop (i + 1) words) ≡ whole
 word_added m counts items more whole words i w at is left =

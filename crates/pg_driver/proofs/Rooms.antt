@@ -13,7 +13,8 @@ use Rattle.pg_types.specs.Inside.counting.Counts.{Counts, AreSmall, sums_of, wit
 use Rattle.pg_patterns.specs.Values.{Patterns}
 use Rattle.pg_select.specs.Inside.engine.Meanings.{with_position}
 use Rattle.pg_select.specs.declared.pass.Pass.{Pass}
-use Rattle.pg_select.specs.CountedPositions.{CountedPosition, counted_positions_at, counts_as}
+use Rattle.pg_select.specs.CountedPositions.{counts_as}
+use Rattle.pg_select.specs.Inside.words.PositionLists.{CountedPosition, counted_positions_at}
 use Rattle.pg_select.specs.Statuses.{status_at, position_weight}
 use Rattle.pg_select.specs.Windows.{Hopeless, window, fits, is_covered}
 use Rattle.pg_driver.specs.Inside.counting.Counting.{HasRoom, TookRoom}

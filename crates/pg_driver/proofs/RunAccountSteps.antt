@@ -5,20 +5,24 @@ use Rattle.std.specs.Option.{option_map, MatchOption}
 use Rattle.std.proofs.lemmas.List.Elements.{All-cons, All-nil}
 use Rattle.pg_types.specs.declared.marks.Layout.{Layout}
 use Rattle.pg_types.specs.declared.marks.Totals.{Totals}
-use Rattle.pg_types.specs.Placement.{Families, taken_count, top}
+use Rattle.pg_types.specs.Placement.{Families, top}
+use Rattle.pg_types.specs.Inside.PlacementSteps.{taken_count}
 use Rattle.pg_types.specs.Tails.{tails}
+use Rattle.pg_dict.specs.Word.{Word}
+use Rattle.pg_translate.specs.Alphabets.{Alphabet}
+use Rattle.pg_select.specs.Sums.{totals as totals_by}
 use Rattle.pg_patterns.specs.Values.{Patterns}
 use Rattle.pg_select.specs.Inside.engine.Meanings.{IsLayout, Meaning}
 use Rattle.pg_select.specs.declared.pass.Pass.{Pass}
 use Rattle.pg_driver.specs.declared.records.LevelRecord.{LevelRecord}
 use Rattle.pg_driver.specs.declared.records.PassRecord.{PassRecord}
-use Rattle.pg_driver.specs.Accounts.{has_candidate, totals_by}
+use Rattle.pg_driver.specs.Accounts.{has_candidate}
 use Rattle.pg_driver.specs.Inside.records.AccountLines.{account}
 use Rattle.pg_driver.specs.Inside.records.CellsAccounts.{cells_account, layout_of}
 use Rattle.pg_driver.specs.Inside.level.Levels.{DidRun, level_layouts, run_layouts}
 use Rattle.pg_driver.specs.Inside.records.SoundRecords.{CompletedRun, RunRecords}
 use Rattle.pg_driver.specs.Inside.records.RunAccounts.{TellsCells, account_of, pass_record_layout, level_record_layout}
-use Rattle.pg_driver.specs.Traces.{LevelTrace, Source, Trace, final_patterns}
+use Rattle.pg_driver.specs.Traces.{LevelTrace, Trace, final_patterns}
 
 none_mapped : {A B : Type 0} (f : A → B) (o : Option A) → option_map f o ≡ None → o ≡ None
 none_mapped f None is = refl
@@ -45,14 +49,14 @@ first_is : (m : Meaning) (o : Option Layout) → IsLayout m o → m.tidy ≡ tru
 first_is m None is tidy = ap (option_map (λ fs. layout_of fs m.patterns)) (sym is)
 first_is m (Some l) is tidy = first_layout m.patterns m.families l is.0 (is.1 tidy)
 
-module _ (source : Source) (run : Trace) (m n : Meaning) (r : RunRecords) (P : Patterns) (totals : Totals) (first : Option Layout) (did : DidRun source run m n r) where
+module _ (T : Alphabet) (W : List Word) (run : Trace) (m n : Meaning) (r : RunRecords) (P : Patterns) (totals : Totals) (first : Option Layout) (did : DidRun T W run m n r) where
   -- the run as it is told
   abbrev pub told_run : CompletedRun
   told_run = record { patterns = P; passes = r.passes; levels = r.levels; totals = totals; first_layout = first; begun = r.begun }
 
-  pub told_account : totals ≡ totals_by source n.patterns → account_of told_run ≡ account source m.patterns run
+  pub told_account : totals ≡ totals_by T W n.patterns → account_of told_run ≡ account T W m.patterns run
   told_account sums =
-      let sum : totals ≡ totals_by source (final_patterns m.patterns run) = sums ∙ ap (λ s. totals_by source s.known.patterns) did.state in
+      let sum : totals ≡ totals_by T W (final_patterns m.patterns run) = sums ∙ ap (λ s. totals_by T W s.known.patterns) did.state in
       λ i. record { passes = did.lines i; levels = did.levels i; totals = sum i }
 
   cells_told : (o : Option Families) → first ≡ option_map (λ fs. layout_of fs m.patterns) o → map pass_record_layout r.passes ≡ run_layouts m.signs o run

@@ -1,25 +1,26 @@
 -- Small runs, computed on the trace. The table has the minima 1 and 1, and the letters a, b and c with the signs 2, 3 and 4.
-use Rattle.std.proofs.Common.{◌≡◌, ℕ, Bool, true, false, List, [], ◌∷◌, map, refl}
+use Rattle.std.proofs.Common.{◌≡◌, ℕ, Bool, true, false, List, [], ◌∷◌, map, codes, refl}
 use Rattle.pg_types.specs.declared.marks.Totals.{Totals}
 use Rattle.pg_types.specs.declared.parameters.LevelParams.{LevelParams}
 use Rattle.pg_types.specs.Parameters.{Parameters}
 use Rattle.pg_types.specs.Placement.{root, with_sign}
+use Rattle.pg_translate.specs.Alphabets.{Alphabet}
 use Rattle.pg_dict.specs.Word.{Word}
 use Rattle.pg_patterns.specs.Values.{Patterns}
 use Rattle.pg_select.specs.declared.pass.Pass.{Pass}
-use Rattle.pg_select.specs.CountedPositions.{Candidate, with_sums, counted_positions}
+use Rattle.pg_select.specs.CountedPositions.{Candidate, candidates_of}
 use Rattle.pg_driver.specs.Dots.{order}
 use Rattle.pg_driver.specs.Accounts.{begun_count}
 use Rattle.pg_driver.specs.Inside.records.AccountLines.{Account, LevelLine, PassLine, account}
 use Rattle.pg_driver.specs.Inside.records.CellsAccounts.{CellsAccount, cells_account}
-use Rattle.pg_driver.specs.Traces.{Source, final_patterns, trace}
+use Rattle.pg_driver.specs.Traces.{final_patterns, trace}
 
 -- a word of these signs, with these hyphens, and with weight 1 everywhere
 abbrev word : List ℕ → List Bool → Word
 word signs hyphens = record { signs = signs; hyphens = hyphens; weights = map (λ _. 1) signs; cares = map (λ _. true) signs; weight = 1 }
 
-abbrev source : List Word → Source
-source words = record { minima = record { left = 1; right = 1 }; words = words }
+abbrev letters_abc : Alphabet
+letters_abc = record { left = 1; right = 1; marks = codes ".-*?"; spellings = (2, codes "a") ∷ (3, codes "b") ∷ (4, codes "c") ∷ [] }
 
 abbrev level : ℕ → ℕ → ℕ → ℕ → ℕ → LevelParams
 level from to good bad threshold = record { pat_start = from; pat_finish = to; good_wt = good; bad_wt = bad; thresh = threshold }
@@ -42,10 +43,10 @@ pass_numbers a = map numbers a.passes
 
 -- the final patterns of a run, and what is told of it
 abbrev patterns : List Word → Parameters → Patterns → Patterns
-patterns words parameters S = final_patterns S (trace (source words) parameters S)
+patterns words parameters S = final_patterns S (trace letters_abc words parameters S)
 
 abbrev told : List Word → Parameters → Patterns → Account
-told words parameters S = account (source words) S (trace (source words) parameters S)
+told words parameters S = account letters_abc words S (trace letters_abc words parameters S)
 
 -- the words ab-c and ab-a
 abbrev two_words : List Word
@@ -68,7 +69,7 @@ abbrev counts : Candidate → List ℕ × ℕ × ℕ
 counts c = (c.window, c.good, c.bad)
 
 abbrev counts_of : ℕ → List (List ℕ × ℕ × ℕ)
-counts_of dot = map counts (with_sums (counted_positions (source two_words).minima two_words (record { level = 1; len = 2; dot = dot }) [] []))
+counts_of dot = map counts (candidates_of letters_abc two_words (record { level = 1; len = 2; dot = dot }) [] [])
 
 counts_at_dot_1 : counts_of 1 ≡ (2 ∷ 3 ∷ [], 0, 2) ∷ (3 ∷ 2 ∷ [], 1, 0) ∷ (3 ∷ 4 ∷ [], 1, 0) ∷ []
 counts_at_dot_1 = refl
@@ -166,7 +167,7 @@ dont_care_passes = refl
 
 -- the number of passes that cannot be skipped: all seven where each of length 2 left a candidate, three where there is no word
 abbrev begun_of : List Word → Parameters → ℕ
-begun_of words parameters = begun_count (trace (source words) parameters [])
+begun_of words parameters = begun_count (trace letters_abc words parameters [])
 
 passes_left : begun_of (a_b ∷ word (1 ∷ 2 ∷ 3 ∷ 1 ∷ []) (false ∷ false ∷ false ∷ false ∷ []) ∷ []) (one_level (level 2 3 1 1 1)) ≡ 7
 passes_left = refl
@@ -176,7 +177,7 @@ passes_skipped = refl
 
 -- the layouts along the first run
 abbrev cells : CellsAccount
-cells = cells_account 4 (root 4) [] (trace (source two_words) (one_level (level 2 2 1 1 2)) [])
+cells = cells_account 4 (root 4) [] (trace letters_abc two_words (one_level (level 2 2 1 1 2)) [])
 
 layout_at_start : cells.start ≡ record { taken = 4; top = 4; tails = 0 }
 layout_at_start = refl

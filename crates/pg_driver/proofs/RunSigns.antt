@@ -1,5 +1,5 @@
 -- The signs of the patterns of a run: they are those of its starting patterns and of its words.
-use Rattle.std.proofs.Common.{◌≡◌, ℕ, ◌-◌, ◌≤◌, max, nat_le, Bool, true, List, [], ◌∷◌, drop, length, Option, None, Some, refl, ◌∙◌}
+use Rattle.std.proofs.Common.{◌≡◌, ℕ, ◌-◌, ◌≤◌, max, nat_le, Bool, true, List, [], ◌∷◌, drop, length, Option, None, Some, refl, ap, ◌∙◌}
 use Rattle.std.specs.List.{All, list_all, enumerate_from}
 use Rattle.std.proofs.lemmas.Bool.{and_from, and_parts, leb-true, le-leb}
 use Rattle.std.proofs.lemmas.List.Elements.{All-nil, All-cons, All-head, All-tail, All-drop, All-take}
@@ -13,7 +13,8 @@ use Rattle.pg_dict.specs.Inside.SoundWords.{SignsAtMost}
 use Rattle.pg_patterns.specs.Values.{Patterns, raise, value_of}
 use Rattle.pg_patterns.specs.Inside.PatternMaps.{SignsUpTo}
 use Rattle.pg_select.specs.declared.pass.Pass.{Pass}
-use Rattle.pg_select.specs.CountedPositions.{Minima, CountedPosition, Candidate, candidates, counted_at, counted_positions, counted_positions_at, good_of, bad_of, with_sums}
+use Rattle.pg_select.specs.CountedPositions.{Candidate, candidates_of, counted_at}
+use Rattle.pg_select.specs.Inside.words.PositionLists.{CountedPosition, candidates, counted_positions, counted_positions_at, good_of, bad_of, with_sums}
 use Rattle.pg_select.specs.Inside.laws.Laws.{raised_all}
 use Rattle.pg_select.specs.Inside.engine.Meanings.{Meaning}
 use Rattle.pg_select.specs.Inside.words.WordCounts.{counted_positions_in}
@@ -22,10 +23,10 @@ use Rattle.pg_select.specs.Windows.{Hopeless, window}
 use Rattle.pg_select.proofs.LawsBounds.{all_put}
 use Rattle.pg_select.proofs.LawsCandidates.{all_candidates, all_flat}
 use Rattle.pg_select.proofs.LawsRaised.{all_kept}
-use Rattle.pg_select.proofs.LawsCounts.{counted_as}
-use Rattle.pg_driver.specs.Inside.level.Passes.{known_at_end}
+use Rattle.pg_select.proofs.LawsCounts.{candidates_listed, counted_as}
+use Rattle.pg_driver.specs.Inside.level.Passes.{level_traces, pass_traces, known_at_end}
 use Rattle.pg_driver.specs.Inside.records.RunAccounts.{patterns_from}
-use Rattle.pg_driver.specs.Traces.{Knowledge, Source, at_start, chosen_in, final_patterns, is_chosen, known_after, level_trace, level_traces, source_of, pass_trace, pass_traces, passes_of, patterns_after}
+use Rattle.pg_driver.specs.Traces.{Knowledge, at_start, chosen_in, final_patterns, is_chosen, known_after, level_trace, pass_trace, passes_of, patterns_after}
 
 -- the signs of a string are at most n
 abbrev is_low : ℕ → List ℕ → Bool
@@ -68,7 +69,7 @@ low_position n pass P H w p all = by (counted_at pass P H w p)
         and_from (is_low n (window w.signs p pass.len pass.dot)) true
         (low_from n (window w.signs p pass.len pass.dot) (All-take (λ s. s ≤ n) pass.len (drop (p - pass.dot) w.signs) (All-drop (λ s. s ≤ n) (p - pass.dot) w.signs all))) refl
 
-low_counted : (n : ℕ) (m : Minima) (words : List Word) (pass : Pass) (P : Patterns) (H : Hopeless) → SignsAtMost n words → low_windows n (counted_positions m words pass P H) ≡ true
+low_counted : (n : ℕ) (m : Alphabet) (words : List Word) (pass : Pass) (P : Patterns) (H : Hopeless) → SignsAtMost n words → low_windows n (counted_positions m words pass P H) ≡ true
 low_counted n m [] pass P H all = refl
 low_counted n m (w ∷ words) pass P H all =
     let here : All (λ s. s ≤ n) w.signs = All-head (λ (w : Word). All (λ s. s ≤ n) w.signs) w words all in
@@ -81,14 +82,15 @@ low_counted n m (w ∷ words) pass P H all =
 abbrev low_candidates : ℕ → List Candidate → Bool
 low_candidates n cs = list_all (λ (c : Candidate). is_low n c.window) cs
 
-module _ (n : ℕ) (source : Source) (params : LevelParams) (words : SignsAtMost n source.words) where
-  low_chosen : (known : Knowledge) (pass : Pass) → low_candidates n (chosen_in (pass_trace source params known pass)) ≡ true
+module _ (n : ℕ) (T : Alphabet) (W : List Word) (params : LevelParams) (words : SignsAtMost n W) where
+  low_chosen : (known : Knowledge) (pass : Pass) → low_candidates n (chosen_in (pass_trace T W params known pass)) ≡ true
   low_chosen known pass =
-      let seen : List CountedPosition = counted_positions source.minima source.words pass known.patterns known.hopeless in
-      all_kept (λ (c : Candidate). is_low n c.window) (is_chosen params) (with_sums seen)
-      (list_all-map (λ (c : Candidate). is_low n c.window) (λ (u : List ℕ). record { window = u; good = good_of seen u; bad = bad_of seen u }) (candidates seen)
+      let seen : List CountedPosition = counted_positions T W pass known.patterns known.hopeless in
+      all_kept (λ (c : Candidate). is_low n c.window) (is_chosen params) (candidates_of T W pass known.patterns known.hopeless)
+      (ap (λ (cs : List Candidate). low_candidates n cs) (candidates_listed T W pass known.patterns known.hopeless)
+      ∙ list_all-map (λ (c : Candidate). is_low n c.window) (λ (u : List ℕ). record { window = u; good = good_of seen u; bad = bad_of seen u }) (candidates seen)
       ∙ all_candidates (is_low n) seen
-      ∙ low_counted n source.minima source.words pass known.patterns known.hopeless words)
+      ∙ low_counted n T W pass known.patterns known.hopeless words)
 
   low_raised : (level dot : ℕ) (P : Patterns) (cs : List Candidate) → low_candidates n cs ≡ true → are_low n P ≡ true → are_low n (raised_all level dot P cs) ≡ true
   low_raised level dot P [] all low = low
@@ -97,20 +99,20 @@ module _ (n : ℕ) (source : Source) (params : LevelParams) (words : SignsAtMost
       low_raised level dot (raise P (c.window, dot) level) cs parts.1 (all_put (λ (e : (List ℕ × ℕ) × ℕ). is_low n e.0.0) (c.window, dot) (max level (value_of P (c.window, dot))) P parts.0 low)
 
   -- through the passes of a level
-  low_passes : (known : Knowledge) (passes : List Pass) → are_low n known.patterns ≡ true → are_low n (known_at_end known (pass_traces source params known passes)).patterns ≡ true
+  low_passes : (known : Knowledge) (passes : List Pass) → are_low n known.patterns ≡ true → are_low n (known_at_end known (pass_traces T W params known passes)).patterns ≡ true
   low_passes known [] low = low
   low_passes known (pass ∷ passes) low =
-      let made = pass_trace source params known pass in
+      let made = pass_trace T W params known pass in
       low_passes (known_after made) passes (low_raised pass.level pass.dot known.patterns (chosen_in made) (low_chosen known pass) low)
 
 -- and through the levels
-low_levels : (n : ℕ) (source : Source) (words : SignsAtMost n source.words) (P : Patterns) (levels : List (ℕ × LevelParams)) → are_low n P ≡ true
-    → are_low n (final_patterns P (level_traces source P levels)) ≡ true
-low_levels n source words P [] low = low
-low_levels n source words P (level ∷ levels) low =
-    low_levels n source words (patterns_after (level_trace source P level)) levels (low_passes n source level.1 words (at_start P) (passes_of level.0 level.1) low)
+low_levels : (n : ℕ) (T : Alphabet) (W : List Word) (words : SignsAtMost n W) (P : Patterns) (levels : List (ℕ × LevelParams)) → are_low n P ≡ true
+    → are_low n (final_patterns P (level_traces T W P levels)) ≡ true
+low_levels n T W words P [] low = low
+low_levels n T W words P (level ∷ levels) low =
+    low_levels n T W words (patterns_after (level_trace T W P level)) levels (low_passes n T W level.1 words (at_start P) (passes_of level.0 level.1) low)
 
 -- the signs of the patterns at the end are at most n, where those of the words and of the start are
 pub run_signs : (n : ℕ) (t : Alphabet) (words : List Word) (parameters : Parameters) (m : Meaning) → SignsAtMost n words → SignsUpTo n m.patterns → SignsUpTo n (patterns_from t words parameters m)
 run_signs n t words parameters m all start =
-    patterns_tell n (patterns_from t words parameters m) (low_levels n (source_of t words) all m.patterns (enumerate_from parameters.start parameters.levels) (patterns_low n m.patterns start))
+    patterns_tell n (patterns_from t words parameters m) (low_levels n t words all m.patterns (enumerate_from parameters.start parameters.levels) (patterns_low n m.patterns start))

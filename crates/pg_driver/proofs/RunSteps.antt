@@ -8,23 +8,27 @@ use Rattle.std.proofs.lemmas.List.Sums.{fold-append, sum_by_push}
 use Rattle.pg_types.specs.declared.marks.Layout.{Layout}
 use Rattle.pg_types.specs.declared.marks.Totals.{Totals}
 use Rattle.pg_types.specs.declared.parameters.LevelParams.{LevelParams}
-use Rattle.pg_types.specs.Placement.{Families, kept_families, taken_count, top}
+use Rattle.pg_types.specs.Placement.{Families, kept_families, top}
+use Rattle.pg_types.specs.Inside.PlacementSteps.{taken_count}
 use Rattle.pg_types.specs.Tails.{tails}
+use Rattle.pg_dict.specs.Word.{Word}
+use Rattle.pg_translate.specs.Alphabets.{Alphabet}
+use Rattle.pg_select.specs.Sums.{totals as totals_by}
 use Rattle.pg_patterns.specs.Values.{Patterns}
 use Rattle.pg_select.specs.Inside.engine.Meanings.{IsLayout, Meaning, after_end_level}
 use Rattle.pg_select.specs.declared.pass.Pass.{Pass}
 use Rattle.pg_select.specs.Windows.{Hopeless}
 use Rattle.pg_driver.specs.declared.records.LevelRecord.{LevelRecord}
-use Rattle.pg_driver.specs.Accounts.{has_candidate, totals_by}
+use Rattle.pg_driver.specs.Accounts.{has_candidate}
 use Rattle.pg_driver.specs.Inside.records.AccountLines.{LevelLine, begun_among, chosen_by, level_line, pass_line, pass_lines}
-use Rattle.pg_driver.specs.Layouts.{after_pass, after_level, strings_in}
+use Rattle.pg_driver.specs.Inside.Layouts.{after_pass, after_level, strings_in}
 use Rattle.pg_driver.specs.Inside.records.CellsAccounts.{layout_of, level_layout, levels_with_families, pass_layouts}
 use Rattle.pg_driver.specs.Inside.records.RunAccounts.{known_of, pass_record_layout, level_record_layout, level_line_of, line_of}
 use Rattle.pg_driver.specs.Inside.level.Levels.{AreRecorded, DidLevel, DidRun, all_made_by, layouts_in, level_layouts, run_layouts}
 use Rattle.pg_driver.specs.Inside.records.SoundRecords.{RunRecords, with_level}
 use Rattle.pg_driver.specs.Inside.level.States.{State, state_at_end, state_of}
-use Rattle.pg_driver.specs.Traces.{Knowledge, LevelTrace, PassTrace, Source, Trace, at_start, final_patterns, level_trace, level_traces, pass_traces, passes_of, patterns_after}
-use Rattle.pg_driver.specs.Inside.level.Passes.{known_at_end}
+use Rattle.pg_driver.specs.Traces.{Knowledge, LevelTrace, PassTrace, Trace, at_start, final_patterns, level_trace, passes_of, patterns_after}
+use Rattle.pg_driver.specs.Inside.level.Passes.{level_traces, pass_traces, known_at_end}
 use Rattle.pg_driver.proofs.Numbers.{plus_zero, zero_plus}
 use Rattle.pg_driver.proofs.WordSteps.{drop_place}
 
@@ -58,28 +62,28 @@ both_maps : (signs number : ℕ) (l : LevelTrace) (P : Patterns) (o : Option Fam
 both_maps signs number l P None same patterns = refl
 both_maps signs number l P (Some fs) same patterns = λ i. let p : ℕ × Layout = (sym same i, layout_of (after_level signs fs l) (patterns i)) in Some p
 
-module _ (source : Source) (number : ℕ) (params : LevelParams) (m0 m n : Meaning) (r0 r s : RunRecords) (totals : Totals) (layout : Option Layout) (none : m0.hopeless ≡ []) where
+module _ (T : Alphabet) (W : List Word) (number : ℕ) (params : LevelParams) (m0 m n : Meaning) (r0 r s : RunRecords) (totals : Totals) (layout : Option Layout) (none : m0.hopeless ≡ []) where
   abbrev level : LevelTrace
-  level = level_trace source m0.patterns (number, params)
+  level = level_trace T W m0.patterns (number, params)
 
   -- the passes of the level
   abbrev passes : List PassTrace
-  passes = all_made_by source params m0 (passes_of number params)
+  passes = all_made_by T W params m0 (passes_of number params)
 
   same_passes : passes ≡ level.passes
-  same_passes = ap (λ (H : Hopeless). pass_traces source params (record { patterns = m0.patterns; hopeless = H }) (passes_of number params)) none
+  same_passes = ap (λ (H : Hopeless). pass_traces T W params (record { patterns = m0.patterns; hopeless = H }) (passes_of number params)) none
 
   same_known : known_at_end (known_of m0) passes ≡ known_at_end (at_start m0.patterns) level.passes
   same_known = ap (λ (H : Hopeless). known_at_end (record { patterns = m0.patterns; hopeless = H })
-      (pass_traces source params (record { patterns = m0.patterns; hopeless = H }) (passes_of number params))) none
+      (pass_traces T W params (record { patterns = m0.patterns; hopeless = H }) (passes_of number params))) none
 
   patterns_end : state_of m ≡ state_at_end m0.signs (state_of m0) passes → m.patterns ≡ patterns_after level
   patterns_end state = ap (λ (x : State). x.known.patterns) state ∙ ap (λ (k : Knowledge). k.patterns) same_known
 
   -- a level that was done
-  pub did_level : state_of m ≡ state_at_end m0.signs (state_of m0) passes → AreRecorded source m0.signs m0.families passes r0 r → r0.chosen ≡ 0 → n
-      ≡ after_end_level m → totals ≡ totals_by source n.patterns → IsLayout n layout → s ≡ with_level r number totals layout
-      → DidLevel source level m0 n r0 s
+  pub did_level : state_of m ≡ state_at_end m0.signs (state_of m0) passes → AreRecorded T W m0.signs m0.families passes r0 r → r0.chosen ≡ 0 → n
+      ≡ after_end_level m → totals ≡ totals_by T W n.patterns → IsLayout n layout → s ≡ with_level r number totals layout
+      → DidLevel T W level m0 n r0 s
   did_level state records chosen ends sums tells is =
       let patterns : m.patterns ≡ patterns_after level = patterns_end state in
       let after : n.patterns ≡ patterns_after level = ap (λ (x : Meaning). x.patterns) ends ∙ patterns in
@@ -92,14 +96,14 @@ module _ (source : Source) (number : ℕ) (params : LevelParams) (m0 m n : Meani
       let own_record : LevelRecord = record { level = number; chosen = r.chosen; after = totals; layout = layout } in
       let own : s.levels ≡ r.levels ++ own_record ∷ [] = ap (λ (x : RunRecords). x.levels) is in
       let count : r.chosen ≡ chosen_by level.passes = records.chosen ∙ ap (λ k. k + chosen_by passes) chosen ∙ zero_plus (chosen_by passes) ∙ ap chosen_by same_passes in
-      let sum : totals ≡ totals_by source (patterns_after level) = sums ∙ ap (totals_by source) after in
-      let line : level_line_of own_record ≡ level_line source level = λ i. record { level = number; chosen = count i; after = sum i } in
+      let sum : totals ≡ totals_by T W (patterns_after level) = sums ∙ ap (totals_by T W) after in
+      let line : level_line_of own_record ≡ level_line T W level = λ i. record { level = number; chosen = count i; after = sum i } in
       let tidy : n.tidy ≡ true = ap (λ (x : Meaning). x.tidy) ends in
       let laid : option_map {U = ℕ × Layout} (λ l. (number, l)) layout ≡ option_map (λ fs. level_layout m0.signs fs level) m0.families =
       layout_is number n layout tells tidy ∙ ap (option_map (λ fs. (number, layout_of fs n.patterns))) families ∙ both_maps m0.signs number level n.patterns m0.families refl after in
       record {
         state = λ i. record { known = record { patterns = after i; hopeless = hopeless i }; families = families i };
-        lines = ap (map line_of) kept_passes ∙ records.lines ∙ ap (λ (ps : List PassTrace). map line_of r0.passes ++ map (pass_line source) (filter has_candidate ps)) same_passes;
+        lines = ap (map line_of) kept_passes ∙ records.lines ∙ ap (λ (ps : List PassTrace). map line_of r0.passes ++ map (pass_line T W) (filter has_candidate ps)) same_passes;
         layouts = ap (map pass_record_layout) kept_passes ∙ records.layouts ∙ ap (λ (ps : List PassTrace). map pass_record_layout r0.passes ++ layouts_in m0.signs m0.families ps) same_passes;
         levels = ap (map level_line_of) own ∙ map_push level_line_of r.levels own_record ∙ ap (λ (ls : List LevelRecord). map level_line_of ls ++ level_line_of own_record ∷ []) records.levels
             ∙ ap (λ (x : LevelLine). map level_line_of r0.levels ++ x ∷ []) line;
@@ -164,9 +168,9 @@ patterns_push S [] l = refl
 patterns_push S (k ∷ run) l = patterns_push (patterns_after k) run l
 
 -- a level more
-pub run_push : (source : Source) (run : Trace) (l : LevelTrace) (m0 m n : Meaning) (r s : RunRecords) → m.signs ≡ m0.signs → DidRun source run m0 m r
-    → DidLevel source l m n r s → DidRun source (run ++ l ∷ []) m0 n s
-run_push source run l m0 m n r s signs before did =
+pub run_push : (T : Alphabet) (W : List Word) (run : Trace) (l : LevelTrace) (m0 m n : Meaning) (r s : RunRecords) → m.signs ≡ m0.signs → DidRun T W run m0 m r
+    → DidLevel T W l m n r s → DidRun T W (run ++ l ∷ []) m0 n s
+run_push T W run l m0 m n r s signs before did =
     let families : m.families ≡ option_map (λ fs. fold (after_level m0.signs) fs run) m0.families = ap (λ (x : State). x.families) before.state in
     let patterns : n.patterns ≡ final_patterns m0.patterns (run ++ l ∷ []) = ap (λ (x : State). x.known.patterns) did.state ∙ sym (patterns_push m0.patterns run l) in
     let hopeless : n.hopeless ≡ [] = ap (λ (x : State). x.known.hopeless) did.state in
@@ -177,14 +181,14 @@ run_push source run l m0 m n r s signs before did =
     ∙ sym (families_push m0.signs m0.families run l) in
     record {
       state = λ i. record { known = record { patterns = patterns i; hopeless = hopeless i }; families = new i };
-      lines = did.lines ∙ ap (λ ls. ls ++ pass_lines source l) before.lines ∙ sym (one_list (pass_lines source) run l);
+      lines = did.lines ∙ ap (λ ls. ls ++ pass_lines T W l) before.lines ∙ sym (one_list (pass_lines T W) run l);
       layouts =
           did.layouts
           ∙ ap (λ ls. ls ++ layouts_in m.signs m.families l.passes) before.layouts
           ∙ ap (λ (k : ℕ). run_layouts m0.signs m0.families run ++ layouts_in k m.families l.passes) signs
           ∙ ap (λ (o : Option Families). run_layouts m0.signs m0.families run ++ layouts_in m0.signs o l.passes) families
           ∙ sym (run_layouts_push m0.signs m0.families run l);
-      levels = did.levels ∙ ap (λ ls. ls ++ level_line source l ∷ []) before.levels ∙ sym (map_push (level_line source) run l);
+      levels = did.levels ∙ ap (λ ls. ls ++ level_line T W l ∷ []) before.levels ∙ sym (map_push (level_line T W) run l);
       level_layouts =
           did.level_layouts
           ∙ ap (λ ls. ls ++ option_map (λ fs. level_layout m.signs fs l) m.families ∷ []) before.level_layouts
@@ -195,8 +199,8 @@ run_push source run l m0 m n r s signs before did =
     }
 
 -- no level yet
-pub run_begins : (source : Source) (m : Meaning) (r : RunRecords) → m.hopeless ≡ [] → r ≡ record { passes = []; levels = []; chosen = 0; begun = 0 } → DidRun source [] m m r
-run_begins source m r none is = record {
+pub run_begins : (T : Alphabet) (W : List Word) (m : Meaning) (r : RunRecords) → m.hopeless ≡ [] → r ≡ record { passes = []; levels = []; chosen = 0; begun = 0 } → DidRun T W [] m m r
+run_begins T W m r none is = record {
   state = λ i. record { known = record { patterns = m.patterns; hopeless = none i }; families = none_yet m.signs m.families i };
   lines = ap (λ (x : RunRecords). map line_of x.passes) is;
   layouts = ap (λ (x : RunRecords). map pass_record_layout x.passes) is ∙ no_layouts m.signs m.families;
@@ -218,31 +222,31 @@ run_begins source m r none is = record {
     no_level_layouts signs (Some fs) = refl
 
 -- levels that were done, and those that are left and lead to a whole
-pub record RunReaches (source : Source) (m0 m : Meaning) (r : RunRecords) (rest : List (ℕ × LevelParams)) (whole : Trace) : Type 0 where
+pub record RunReaches (T : Alphabet) (W : List Word) (m0 m : Meaning) (r : RunRecords) (rest : List (ℕ × LevelParams)) (whole : Trace) : Type 0 where
   pub done : Trace
-  pub did : DidRun source done m0 m r
-  pub left : done ++ level_traces source m.patterns rest ≡ whole
+  pub did : DidRun T W done m0 m r
+  pub left : done ++ level_traces T W m.patterns rest ≡ whole
 
 -- a level of those that are left
-pub level_on : (source : Source) (m0 m n : Meaning) (r s : RunRecords) (level : ℕ × LevelParams) (levels rest : List (ℕ × LevelParams)) (whole : Trace)
-    → m.signs ≡ m0.signs → levels ≡ level ∷ rest → DidLevel source (level_trace source m.patterns level) m n r s
-    → RunReaches source m0 m r levels whole → RunReaches source m0 n s rest whole
-level_on source m0 m n r s level levels rest whole signs first did before =
-    let l : LevelTrace = level_trace source m.patterns level in
+pub level_on : (T : Alphabet) (W : List Word) (m0 m n : Meaning) (r s : RunRecords) (level : ℕ × LevelParams) (levels rest : List (ℕ × LevelParams)) (whole : Trace)
+    → m.signs ≡ m0.signs → levels ≡ level ∷ rest → DidLevel T W (level_trace T W m.patterns level) m n r s
+    → RunReaches T W m0 m r levels whole → RunReaches T W m0 n s rest whole
+level_on T W m0 m n r s level levels rest whole signs first did before =
+    let l : LevelTrace = level_trace T W m.patterns level in
     record {
       done = before.done ++ l ∷ [];
-      did = run_push source before.done l m0 m n r s signs before.did did;
+      did = run_push T W before.done l m0 m n r s signs before.did did;
       left =
-          append_assoc before.done (l ∷ []) (level_traces source n.patterns rest)
-          ∙ ap (λ (x : State). before.done ++ l ∷ level_traces source x.known.patterns rest) did.state
-          ∙ ap (λ (ls : List (ℕ × LevelParams)). before.done ++ level_traces source m.patterns ls) (sym first)
+          append_assoc before.done (l ∷ []) (level_traces T W n.patterns rest)
+          ∙ ap (λ (x : State). before.done ++ l ∷ level_traces T W x.known.patterns rest) did.state
+          ∙ ap (λ (ls : List (ℕ × LevelParams)). before.done ++ level_traces T W m.patterns ls) (sym first)
           ∙ before.left;
     }
 
-pub run_whole : (source : Source) (m0 m : Meaning) (r : RunRecords) (rest : List (ℕ × LevelParams)) (whole : Trace) → rest ≡ [] → RunReaches source m0 m r rest whole → DidRun source whole m0 m r
-run_whole source m0 m r rest whole none reaches =
-    subst (λ (run : Trace). DidRun source run m0 m r)
-    (sym (append-nil reaches.done) ∙ ap (λ (ls : List (ℕ × LevelParams)). reaches.done ++ level_traces source m.patterns ls) (sym none) ∙ reaches.left)
+pub run_whole : (T : Alphabet) (W : List Word) (m0 m : Meaning) (r : RunRecords) (rest : List (ℕ × LevelParams)) (whole : Trace) → rest ≡ [] → RunReaches T W m0 m r rest whole → DidRun T W whole m0 m r
+run_whole T W m0 m r rest whole none reaches =
+    subst (λ (run : Trace). DidRun T W run m0 m r)
+    (sym (append-nil reaches.done) ∙ ap (λ (ls : List (ℕ × LevelParams)). reaches.done ++ level_traces T W m.patterns ls) (sym none) ∙ reaches.left)
     reaches.did
 
 pub no_levels : (start i : ℕ) (levels : List LevelParams) → length levels ≤ i → enumerate_from (start + i) (drop i levels) ≡ []

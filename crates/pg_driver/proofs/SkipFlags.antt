@@ -2,9 +2,11 @@
 use Rattle.std.proofs.Common.{◌≡◌, ℕ, zero, suc, ◌+◌, ◌≤◌, ◌==◌, Bool, true, false, ◌&&◌, ◌||◌, List, [], ◌∷◌, ◌++◌, get_or, replicate, refl, sym, ap, ◌∙◌, arith}
 use Rattle.std.proofs.lemmas.Bool.Decides.{nat_tests}
 use Rattle.pg_types.specs.declared.parameters.LevelParams.{LevelParams}
+use Rattle.pg_dict.specs.Word.{Word}
+use Rattle.pg_translate.specs.Alphabets.{Alphabet}
 use Rattle.pg_driver.specs.Inside.records.AccountLines.{is_skippable, left_none}
 use Rattle.pg_driver.specs.Inside.level.Levels.{SkipFlags, TellSkippable, is_set, no_flags}
-use Rattle.pg_driver.specs.Traces.{Knowledge, PassTrace, Source, pass_trace}
+use Rattle.pg_driver.specs.Traces.{Knowledge, PassTrace, pass_trace}
 use Rattle.pg_driver.proofs.TraceSteps.{skippable_push}
 
 unset_at : (n i : ℕ) → get_or (replicate n false) i false ≡ false
@@ -44,11 +46,11 @@ abbrev pub Follows : ℕ → Bool → SkipFlags → SkipFlags → Type 0
 Follows dot b old new = (d : ℕ) → is_set new.longer d ≡ (b && (dot == d || dot + 1 == d) || is_set old.longer d)
 
 -- after a pass of the length
-pub tells_more : (number len dot : ℕ) (source : Source) (params : LevelParams) (known : Knowledge) (old new : SkipFlags) (ps : List PassTrace) → TellSkippable number len old ps → new.here ≡ old.here
-    → Follows dot (left_none (pass_trace source params known (record { level = number; len = len; dot = dot }))) old new
-    → TellSkippable number len new (ps ++ pass_trace source params known (record { level = number; len = len; dot = dot }) ∷ [])
-tells_more number len dot source params known old new ps tells here longer =
-    let q : PassTrace = pass_trace source params known (record { level = number; len = len; dot = dot }) in
+pub tells_more : (number len dot : ℕ) (T : Alphabet) (W : List Word) (params : LevelParams) (known : Knowledge) (old new : SkipFlags) (ps : List PassTrace) → TellSkippable number len old ps → new.here ≡ old.here
+    → Follows dot (left_none (pass_trace T W params known (record { level = number; len = len; dot = dot }))) old new
+    → TellSkippable number len new (ps ++ pass_trace T W params known (record { level = number; len = len; dot = dot }) ∷ [])
+tells_more number len dot T W params known old new ps tells here longer =
+    let q : PassTrace = pass_trace T W params known (record { level = number; len = len; dot = dot }) in
     let b : Bool = left_none q in
     record {
       here = λ d.

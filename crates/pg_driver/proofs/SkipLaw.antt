@@ -4,20 +4,24 @@ use Rattle.std.specs.List.{list_all}
 use Rattle.std.proofs.lemmas.Bool.{and_parts, or_cases}
 use Rattle.std.proofs.lemmas.Bool.Decides.{Decides-eqb, nat_tests}
 use Rattle.pg_types.specs.declared.parameters.LevelParams.{LevelParams}
+use Rattle.pg_translate.specs.Alphabets.{Alphabet}
 use Rattle.pg_dict.specs.Word.{Word}
 use Rattle.pg_patterns.specs.Values.{Patterns}
 use Rattle.pg_select.specs.Inside.laws.Laws.{CountsNothing}
 use Rattle.pg_select.specs.declared.pass.Pass.{Pass}
-use Rattle.pg_select.specs.CountedPositions.{Minima, Candidate, with_sums}
+use Rattle.pg_select.specs.CountedPositions.{Candidate}
+use Rattle.pg_select.specs.Inside.words.PositionLists.{with_sums}
 use Rattle.pg_select.specs.Windows.{Hopeless}
+use Rattle.pg_select.proofs.LawsCounts.{candidates_listed}
 use Rattle.pg_select.proofs.LawsLater.{nothing_later}
 use Rattle.pg_select.proofs.LawsLonger.{nothing_behind, nothing_before}
 use Rattle.pg_select.proofs.LawsNothing.{nothing_counts_after, later_after_pass}
 use Rattle.pg_driver.specs.Inside.records.AccountLines.{is_skippable, left_none}
 use Rattle.pg_driver.specs.Inside.level.Levels.{SkippableCountNothing}
-use Rattle.pg_driver.specs.Traces.{Knowledge, PassTrace, Source, is_chosen, is_hopeless, is_entered, known_after, pass_trace}
+use Rattle.pg_driver.specs.Traces.{Knowledge, PassTrace, is_chosen, is_hopeless, is_entered, known_after, pass_trace}
 use Rattle.pg_driver.specs.Inside.choices.Fates.{chosen_of, hopeless_of}
 use Rattle.pg_driver.proofs.FateLaws.{by_fate}
+use Rattle.pg_driver.proofs.ListedTraces.{of_listed}
 use Rattle.pg_driver.proofs.TraceSteps.{skippable_push}
 
 chosen_or_hopeless : (h x : Bool) → (h || x) ≡ (x || h)
@@ -30,7 +34,7 @@ all_chosen_or_hopeless : (params : LevelParams) (cs : List Candidate) → list_a
 all_chosen_or_hopeless params [] = refl
 all_chosen_or_hopeless params (c ∷ cs) = λ i. chosen_or_hopeless (is_hopeless params c) (is_chosen params c) i && all_chosen_or_hopeless params cs i
 
-module _ (m : Minima) (words : List Word) (P : Patterns) (H : Hopeless) where
+module _ (m : Alphabet) (words : List Word) (P : Patterns) (H : Hopeless) where
   -- a pass with the same numbers
   same_pass : (number a b x y : ℕ) → a ≡ b → x ≡ y → CountsNothing m words (record { level = number; len = a; dot = x }) P H → CountsNothing m words (record { level = number; len = b; dot = y }) P H
   same_pass number a b x y len dot closed =
@@ -49,33 +53,42 @@ module _ (m : Minima) (words : List Word) (P : Patterns) (H : Hopeless) where
       (nothing_before m words (record { level = number; len = l; dot = d }) P H closed))
       (or_cases (d == dot) (d + 1 == dot) parts.1)
 
+-- a pass that left no candidate counts nothing from its end on
+nothing_after : (T : Alphabet) (W : List Word) (params : LevelParams) (known : Knowledge) (pass : Pass)
+    → list_all (λ c. is_chosen params c || is_hopeless params c) (pass_trace T W params known pass).candidates ≡ true
+    → CountsNothing T W pass (known_after (pass_trace T W params known pass)).patterns (known_after (pass_trace T W params known pass)).hopeless
+nothing_after T W params known pass =
+    of_listed T W params known pass
+    (λ (q : PassTrace). list_all (λ c. is_chosen params c || is_hopeless params c) q.candidates ≡ true → CountsNothing T W pass (known_after q).patterns (known_after q).hopeless)
+    (nothing_counts_after T W pass known.patterns known.hopeless (λ c. is_chosen params c) (λ c. is_hopeless params c))
+
 -- each pass that can be skipped counts nothing, after a pass too
-pub closed_on : (source : Source) (params : LevelParams) (number l d : ℕ) (known : Knowledge) (ps : List PassTrace) → SkippableCountNothing source number ps known
-    → SkippableCountNothing source number (ps ++ pass_trace source params known (record { level = number; len = l; dot = d }) ∷ [])
-    (known_after (pass_trace source params known (record { level = number; len = l; dot = d })))
-closed_on source params number l d known ps closed len dot is =
+pub closed_on : (T : Alphabet) (W : List Word) (params : LevelParams) (number l d : ℕ) (known : Knowledge) (ps : List PassTrace) → SkippableCountNothing T W number ps known
+    → SkippableCountNothing T W number (ps ++ pass_trace T W params known (record { level = number; len = l; dot = d }) ∷ [])
+    (known_after (pass_trace T W params known (record { level = number; len = l; dot = d })))
+closed_on T W params number l d known ps closed len dot is =
     let pass : Pass = record { level = number; len = l; dot = d } in
-    let q : PassTrace = pass_trace source params known pass in
+    let q : PassTrace = pass_trace T W params known pass in
     let after : Knowledge = known_after q in
     let none : Bool = left_none q in
     ⊎_elim
     (λ (here : (none && (l + 1 == len && (d == dot || d + 1 == dot))) ≡ true).
     let parts = and_parts none (l + 1 == len && (d == dot || d + 1 == dot)) here in
-    longer_closed source.minima source.words after.patterns after.hopeless number l d len dot
-    (nothing_counts_after source.minima source.words pass known.patterns known.hopeless (λ c. is_chosen params c)
-    (λ c. is_hopeless params c) (sym (all_chosen_or_hopeless params q.candidates) ∙ parts.0))
+    longer_closed T W after.patterns after.hopeless number l d len dot
+    (nothing_after T W params known pass (sym (all_chosen_or_hopeless params q.candidates) ∙ parts.0))
     parts.1)
     (λ (before : is_skippable ps (record { level = number; len = len; dot = dot }) ≡ true).
-    nothing_later source.minima source.words (record { level = number; len = len; dot = dot }) known.patterns after.patterns known.hopeless after.hopeless
+    nothing_later T W (record { level = number; len = len; dot = dot }) known.patterns after.patterns known.hopeless after.hopeless
     (later_after_pass number d known.patterns known.hopeless (chosen_of params q.candidates) (hopeless_of params q.candidates)) (closed len dot before))
     (or_cases (none && (l + 1 == len && (d == dot || d + 1 == dot))) (is_skippable ps (record { level = number; len = len; dot = dot }))
     (sym (skippable_push ps q (record { level = number; len = len; dot = dot })) ∙ is))
 
 -- so it has no candidate
-pub skipped_none : (source : Source) (params : LevelParams) (number len dot : ℕ) (known : Knowledge) (ps : List PassTrace) → SkippableCountNothing source number ps known
+pub skipped_none : (T : Alphabet) (W : List Word) (params : LevelParams) (number len dot : ℕ) (known : Knowledge) (ps : List PassTrace) → SkippableCountNothing T W number ps known
     → is_skippable ps (record { level = number; len = len; dot = dot }) ≡ true
-    → (pass_trace source params known (record { level = number; len = len; dot = dot })).candidates ≡ []
-skipped_none source params number len dot known ps closed is = ap with_sums (closed len dot is)
+    → (pass_trace T W params known (record { level = number; len = len; dot = dot })).candidates ≡ []
+skipped_none T W params number len dot known ps closed is =
+    candidates_listed T W (record { level = number; len = len; dot = dot }) known.patterns known.hopeless ∙ ap with_sums (closed len dot is)
 
 -- what became of candidates tells whether one was left
 chosen_within : (params : LevelParams) (cs : List Candidate) → length (chosen_of params cs) + length (hopeless_of params cs) ≤ length cs

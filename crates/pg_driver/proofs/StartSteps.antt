@@ -13,6 +13,7 @@ use Rattle.pg_types.specs.declared.parameters.LevelParams.{LevelParams}
 use Rattle.pg_types.specs.Inside.Signs.{SignsWithin, is_sign}
 use Rattle.pg_types.specs.Inside.counting.Counts.{Counts, counted_sums}
 use Rattle.pg_types.specs.Inside.counting.NumberedWindows.{AreInOrder, HasNumber, Windows}
+use Rattle.pg_translate.specs.Alphabets.{Alphabet}
 use Rattle.pg_dict.specs.Inside.Store.{all_signs}
 use Rattle.pg_dict.specs.Inside.SoundWords.{IsWord, SignsAtMost}
 use Rattle.pg_dict.specs.Word.{Word}
@@ -37,7 +38,7 @@ use Rattle.pg_driver.specs.Inside.counting.Counting.{AreNumbersFor}
 use Rattle.pg_driver.specs.Inside.level.PassWindows.{IsCandidate}
 use Rattle.pg_driver.specs.Inside.counting.LevelCounting.{AreNumbersIn, HasSize, IsReady}
 use Rattle.pg_driver.specs.Inside.counting.OpenSigns.{HasFate, closed_at_sign, closed_by, closed_in, open_at, position_from, start_of}
-use Rattle.pg_driver.specs.Traces.{Knowledge, Source}
+use Rattle.pg_driver.specs.Traces.{Knowledge}
 use Rattle.pg_driver.proofs.FlatSigns.{fit_within, flat_inside}
 use Rattle.pg_driver.proofs.NumberSteps.{order_counted, part_whole}
 use Rattle.pg_driver.proofs.OpenSigns.{IsSignOf, place_of, sign_within}
@@ -107,9 +108,9 @@ stays_closed params pass counts words old d s is = by_word (slice_get words (pos
         (counted_sums counts (window w.signs (position_from 0 words s).at pass.len pass.dot))
 
 -- what a ready way to count has
-pub has_size : (source : Source) (level len : ℕ) (known : Knowledge) (c : WayToCount) → IsReady source level len known c → HasSize source.words c
-has_size source level len known (Open o) ready = ready.size
-has_size source level len known (EachWord e) ready = tt
+pub has_size : (T : Alphabet) (W : List Word) (level len : ℕ) (known : Knowledge) (c : WayToCount) → IsReady T W level len known c → HasSize W c
+has_size T W level len known (Open o) ready = ready.size
+has_size T W level len known (EachWord e) ready = tt
 
 pub known_in : (words : List Word) (len : ℕ) (n : StartNumbers) (c : WayToCount) → AreNumbersIn words len n c → AreKnown (all_signs words) n
 known_in words len n (Open o) numbers = numbers.known

@@ -8,11 +8,12 @@ use Rattle.std.proofs.lemmas.List.{map-append, length-append}
 use Rattle.std.proofs.lemmas.List.Elements.{filter-append}
 use Rattle.std.proofs.lemmas.List.Folds.{list_any-append}
 use Rattle.std.proofs.lemmas.List.Sums.{fold-append, sum_by_push}
-use Rattle.pg_types.specs.Placement.{Families, taken_count, top}
+use Rattle.pg_types.specs.Placement.{Families, top}
+use Rattle.pg_types.specs.Inside.PlacementSteps.{taken_count}
 use Rattle.pg_select.specs.declared.pass.Pass.{Pass}
 use Rattle.pg_driver.specs.Accounts.{has_candidate, makes_skippable}
 use Rattle.pg_driver.specs.Inside.records.AccountLines.{begun_among, chosen_by, is_skippable, left_none}
-use Rattle.pg_driver.specs.Layouts.{after_pass}
+use Rattle.pg_driver.specs.Inside.Layouts.{after_pass}
 use Rattle.pg_driver.specs.Inside.records.CellsAccounts.{pass_layouts, passes_with_families}
 use Rattle.pg_driver.specs.Inside.level.Levels.{layouts_in}
 use Rattle.pg_driver.specs.Inside.level.States.{State, state_after, state_at_end}
@@ -79,8 +80,8 @@ or_last true false = refl
 or_last false true = refl
 or_last false false = refl
 
-pub skippable_push : (ps : List PassTrace) (q : PassTrace) (x : Pass) → is_skippable (ps ++ q ∷ []) x ≡ (makes_skippable x q || is_skippable ps x)
-skippable_push ps q x = list_any-append (makes_skippable x) ps (q ∷ []) ∙ or_last (is_skippable ps x) (makes_skippable x q)
+pub skippable_push : (ps : List PassTrace) (q : PassTrace) (x : Pass) → is_skippable (ps ++ q ∷ []) x ≡ (makes_skippable q x || is_skippable ps x)
+skippable_push ps q x = list_any-append (λ p. makes_skippable p x) ps (q ∷ []) ∙ or_last (is_skippable ps x) (makes_skippable q x)
 
 not_shorter : (n k : ℕ) → k ≤ n → (n + 1 == k) ≡ false
 not_shorter n k least = grind (arith, nat_tests)
@@ -90,7 +91,7 @@ off true t r is = ap (λ x. x && r) is
 off false t r is = refl
 
 -- a pass makes none skippable that is not longer
-pub skips_none : (q : PassTrace) (x : Pass) → x.len ≤ q.pass.len → makes_skippable x q ≡ false
+pub skips_none : (q : PassTrace) (x : Pass) → x.len ≤ q.pass.len → makes_skippable q x ≡ false
 skips_none q x least = off (left_none q) (q.pass.len + 1 == x.len) (q.pass.dot == x.dot || q.pass.dot + 1 == x.dot) (not_shorter q.pass.len x.len least)
 
 same_begun : (all : List PassTrace) (q : PassTrace) (xs : List PassTrace) → list_all (λ p. nat_le p.pass.len q.pass.len) xs ≡ true

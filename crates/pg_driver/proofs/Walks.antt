@@ -9,7 +9,7 @@ use Rattle.pg_patterns.specs.Values.{Patterns, value_at}
 use Rattle.pg_select.specs.Inside.engine.Meanings.{with_position}
 use Rattle.pg_select.specs.declared.pass.Pass.{Pass}
 use Rattle.pg_select.specs.Windows.{Hopeless}
-use Rattle.pg_select.specs.CountedPositions.{CountedPosition, counted_positions_at}
+use Rattle.pg_select.specs.Inside.words.PositionLists.{CountedPosition, counted_positions_at}
 use Rattle.pg_driver.specs.Inside.counting.Counting.{HasRoom, TookRoom}
 use Rattle.pg_driver.proofs.Rooms.{room_left, took_position, took_more}
 use Rattle.pg_select.proofs.Reaches.{range_step}

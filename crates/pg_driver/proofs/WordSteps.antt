@@ -6,10 +6,10 @@ use Rattle.std.proofs.lemmas.List.FromFn.{length-range_with_len}
 use Rattle.std.proofs.lemmas.List.Sums.{sum_by-cons}
 use Rattle.std.proofs.lemmas.Option.{slice_get_within, get_or_from_slice_get}
 use Rattle.pg_types.specs.Inside.Signs.{SignsWithin}
+use Rattle.pg_translate.specs.Alphabets.{Alphabet}
 use Rattle.pg_translate.specs.Reach.{positions}
 use Rattle.pg_dict.specs.Word.{Word}
 use Rattle.pg_dict.specs.Inside.SoundWords.{IsWord, SignsAtMost, letter_count}
-use Rattle.pg_select.specs.CountedPositions.{Minima}
 use Rattle.pg_select.specs.Inside.laws.Laws.{number_of_positions}
 
 -- the place of an element, and what stands behind it
@@ -25,17 +25,17 @@ pub reach_few : (ps : List ℕ) (first end n : ℕ) → ps ≡ range_with_len fi
 reach_few ps first end n are few = omega (arith, ap (λ (qs : List ℕ). length qs) are, length-range_with_len first (end - first))
 
 -- the words so far have no more positions in reach than letters
-abbrev pub AreReached : Minima → List Word → ℕ → Type 0
+abbrev pub AreReached : Alphabet → List Word → ℕ → Type 0
 AreReached m ws i = number_of_positions m ws + sum_by letter_count (drop i ws) ≤ sum_by letter_count ws + number_of_positions m (drop i ws)
 
-pub reached_on : (m : Minima) (ws : List Word) (i : ℕ) (w : Word) → slice_get ws i ≡ Some w → length (positions m.left m.right (length w.signs)) ≤ letter_count w
+pub reached_on : (m : Alphabet) (ws : List Word) (i : ℕ) (w : Word) → slice_get ws i ≡ Some w → length (positions m.left m.right (length w.signs)) ≤ letter_count w
     → AreReached m ws i → AreReached m ws (i + 1)
 reached_on m ws i w at few before =
     let here : number_of_positions m (drop i ws) ≡ length (positions m.left m.right (length w.signs)) + number_of_positions m (drop (i + 1) ws) =
     ap (λ us. number_of_positions m us) (drop_place ws i w at) ∙ sum_by-cons (λ (v : Word). length (positions m.left m.right (length v.signs))) w (drop (i + 1) ws) in
     omega (arith, letters_left ws i w at)
 
-pub all_reached : (m : Minima) (ws : List Word) (i : ℕ) → length ws ≤ i → AreReached m ws i → number_of_positions m ws ≤ sum_by letter_count ws
+pub all_reached : (m : Alphabet) (ws : List Word) (i : ℕ) → length ws ≤ i → AreReached m ws i → number_of_positions m ws ≤ sum_by letter_count ws
 all_reached m ws i end before =
     let none : number_of_positions m (drop i ws) ≡ 0 = ap (λ us. number_of_positions m us) (drop_all i ws end) in
     omega arith

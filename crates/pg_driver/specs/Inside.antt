@@ -3,3 +3,4 @@ pub mod counting
 pub mod level
 pub mod choices
 pub mod records
+pub mod Layouts

@@ -1,5 +1,4 @@
 pub mod Dots
 pub mod Traces
 pub mod Accounts
-pub mod Layouts
 pub mod Inside

@@ -10,19 +10,9 @@ use Rattle.pg_patterns.specs.DottedSigns.{dotted_cmp}
 use Rattle.pg_patterns.specs.Values.{Patterns, raise}
 use Rattle.pg_select.specs.Windows.{Hopeless}
 use Rattle.pg_select.specs.declared.pass.Pass.{Pass}
-use Rattle.pg_select.specs.CountedPositions.{Minima, Candidate, counted_positions, with_sums, minima_of}
+use Rattle.pg_select.specs.CountedPositions.{Candidate, candidates_of}
 use Rattle.pg_driver.specs.Dots.{order}
 use Rattle.pg_translate.specs.Alphabets.{Alphabet}
-use Rattle.pg_translate.specs.Gaps.{last_else}
-
--- what a run goes over: the minima of the table, and the words
-pub record Source : Type 0 where
-  pub minima : Minima
-  pub words : List Word
-
--- the source of a run over these words, with the minima of a table
-abbrev pub source_of : Alphabet → List Word → Source
-source_of t words = record { minima = minima_of t; words = words }
 
 -- what is known at a moment: the patterns so far, and the dotted strings that are hopeless now
 pub record Knowledge : Type 0 where
@@ -45,6 +35,11 @@ pub record LevelTrace : Type 0 where
 -- a trace: the levels of a run, in order
 abbrev pub Trace : Type 0
 Trace = List LevelTrace
+
+-- steps that are made one after the other: each begins with what is known after the one before it
+abbrev pub chain : {K X Y : Type 0} → (K → X → Y) → (Y → K) → K → List X → List Y
+chain make after known [] = []
+chain make after known (x ∷ xs) = let y = make known x in y ∷ chain make after (after y) xs
 
 -- whether the good of a candidate cannot reach the threshold
 abbrev pub is_hopeless : LevelParams → Candidate → Bool
@@ -75,17 +70,11 @@ known_after p = record {
       (hopeless_in p);
 }
 
--- a pass that is made when this is known
-abbrev pub pass_trace : Source → LevelParams → Knowledge → Pass → PassTrace
-pass_trace source params known pass =
-    let counted = counted_positions source.minima source.words pass known.patterns known.hopeless in
-    record { pass = pass; params = params; before = known; candidates = with_sums counted }
-
--- passes that are made one after the other: each begins with what is known after the one before it
-abbrev pub pass_traces : Source → LevelParams → Knowledge → List Pass → List PassTrace
-pass_traces source params known [] = []
-pass_traces source params known (pass ∷ passes) = let p = pass_trace source params known pass in
-    p ∷ pass_traces source params (known_after p) passes
+-- a pass over the words W of a table T that is made when this is known
+abbrev pub pass_trace : Alphabet → List Word → LevelParams → Knowledge → Pass → PassTrace
+pass_trace T W params known pass =
+    let candidates = candidates_of T W pass known.patterns known.hopeless in
+    record { pass = pass; params = params; before = known; candidates = candidates }
 
 -- the passes of a level in their order: those of each length, and of a length each dot in its order
 abbrev pub passes_of : ℕ → LevelParams → List Pass
@@ -98,26 +87,20 @@ abbrev pub at_start : Patterns → Knowledge
 at_start P = record { patterns = P; hopeless = [] }
 
 -- a level that is made when these are the patterns
-abbrev pub level_trace : Source → Patterns → ℕ × LevelParams → LevelTrace
-level_trace source P level =
-    let passes = pass_traces source level.1 (at_start P) (passes_of level.0 level.1) in
+abbrev pub level_trace : Alphabet → List Word → Patterns → ℕ × LevelParams → LevelTrace
+level_trace T W P level = let passes = chain (pass_trace T W level.1) known_after (at_start P)
+    (passes_of level.0 level.1) in
     record { number = level.0; before = P; passes = passes }
 
 -- the patterns after a level: those known after its last pass, or else those before it
 abbrev pub patterns_after : LevelTrace → Patterns
-patterns_after l = (last_else (at_start l.before) (map known_after l.passes)).patterns
-
--- levels that are made one after the other: each begins with the patterns after the one before it
-abbrev pub level_traces : Source → Patterns → List (ℕ × LevelParams) → Trace
-level_traces source P [] = []
-level_traces source P (level ∷ levels) = let l = level_trace source P level in
-    l ∷ level_traces source (patterns_after l) levels
+patterns_after l = (fold (λ _ known. known) (at_start l.before) (map known_after l.passes)).patterns
 
 -- the trace of the run from starting patterns: one level for each of the parameters
-abbrev pub trace : Source → Parameters → Patterns → Trace
-trace source parameters S =
-    level_traces source S (enumerate_from parameters.start parameters.levels)
+abbrev pub trace : Alphabet → List Word → Parameters → Patterns → Trace
+trace T W parameters S = chain (level_trace T W) patterns_after S
+    (enumerate_from parameters.start parameters.levels)
 
 -- the patterns at the end of a run from S: those after its last level, or else S
 abbrev pub final_patterns : Patterns → Trace → Patterns
-final_patterns S run = last_else S (map patterns_after run)
+final_patterns S run = fold (λ _ P. P) S (map patterns_after run)

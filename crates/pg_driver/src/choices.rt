@@ -39,6 +39,7 @@ pub struct Choices {
 
 /// Chooses the candidate with the number, makes it hopeless or leaves it. Its sums are read only
 /// where it is chosen. Only the contract reads `params`.
+#[inline(always)]
 fn choose_one<E: Engine>(
     engine: &mut E,
     signs: &[Sign],

@@ -1,6 +1,8 @@
 //! The ways to count the windows of a level.
-ghost use Rattle.std.specs.Prelude.{◌≡◌, ◌≤◌, ◌<◌, ◌+◌, ◌-◌, [], ℕ, length, IfOk, OnOk};
+ghost use Rattle.std.specs.Prelude.{◌≡◌, ◌≤◌, ◌<◌, ◌+◌, ◌-◌, List, [], ℕ, length, IfOk, OnOk};
 ghost use Rattle.pg_types.specs.declared.limits.TheConstants.{LENGTH_MAX};
+ghost use Rattle.pg_dict.specs.Word.{Word};
+ghost use Rattle.pg_translate.specs.Alphabets.{Alphabet};
 ghost use Rattle.pg_dict.specs.Inside.Store.{all_signs};
 ghost use Rattle.pg_starts.specs.Inside.Known.{AreKnown};
 ghost use Rattle.pg_starts.specs.Inside.StartCountings.{AreCounting, counts_in, windows_in};
@@ -11,7 +13,7 @@ ghost use Rattle.pg_driver.specs.Inside.counting.LevelCounting.{AreInWords, AreL
 ghost use Rattle.pg_driver.specs.Inside.level.PassWindows.{AreFates};
 ghost use Rattle.pg_driver.specs.Inside.level.States.{HasBegun, IsPass};
 ghost use Rattle.pg_driver.specs.Inside.records.RunAccounts.{known_of};
-ghost use Rattle.pg_driver.specs.Traces.{Knowledge, Source, source_of};
+ghost use Rattle.pg_driver.specs.Traces.{Knowledge};
 ghost use Rattle.pg_patterns.specs.Values.{Patterns};
 
 mod above_positions;
@@ -48,7 +50,8 @@ pub enum WayToCount {
 impl WayToCount {
     /// Before the first level: no position is open.
     pub fn new(alloc: Global) -> WayToCount
-        ensures { (source : Source) (level : ℕ) (P : Patterns) → HasEnded source level P result }
+        ensures { (T : Alphabet) (W : List Word) (level : ℕ) (P : Patterns)
+            → HasEnded T W level P result }
     {
         WayToCount::EachWord(WordLevel::new(alloc))
     }
@@ -72,10 +75,10 @@ impl WayToCount {
         requires signs { SignsAtMost (E.meaning engine.now).signs dictionary.now }
         requires hopeless { (E.meaning engine.now).hopeless ≡ [] }
         requires below { greatest < level → IsBelow level (E.meaning engine.now).patterns }
-        requires ended { HasEnded (source_of table.now dictionary.now) (level - 1)
+        requires ended { HasEnded table.now dictionary.now (level - 1)
             (E.meaning engine.now).patterns self.old }
         ensures ready { OnOk result ((len : ℕ)
-            → IsReady (source_of table.now dictionary.now) level len
+            → IsReady table.now dictionary.now level len
             (known_of (E.meaning engine.now)) self.new) }
         ensures form { OnOk result (greatest < level → IsOverOpen self.new) }
     {
@@ -126,12 +129,12 @@ impl WayToCount {
         windows: &mut PassWindows,
     ) -> Result<Totals, AllocError>
         requires begun { HasBegun pass dictionary.now (E.meaning engine.now) }
-        requires ready { IsReady (source_of table.now dictionary.now) pass.level pass.len
+        requires ready { IsReady table.now dictionary.now pass.level pass.len
             (known_of (E.meaning engine.now)) self.old }
         requires numbers { AreNumbersIn dictionary.now pass.len windows.old.counts.numbers self.old }
-        ensures did { IfOk result (DidCount (source_of table.now dictionary.now) pass
+        ensures did { IfOk result (DidCount table.now dictionary.now pass
             (E.meaning engine.now) (counts_in (all_signs dictionary.now) windows.new.counts)) }
-        ensures ready { OnOk result (IsReady (source_of table.now dictionary.now)
+        ensures ready { OnOk result (IsReady table.now dictionary.now
             pass.level pass.len (known_of (E.meaning engine.now)) self.new) }
         ensures counted { OnOk result (IsCounted self.new) }
         ensures counting { OnOk result
@@ -211,9 +214,9 @@ impl WayToCount {
 
     /// Goes on to the next length.
     pub fn next_length(&mut self) -> Result<(), AllocError>
-        ensures ready { OnOk result ((source : Source) (level len : ℕ) (known : Knowledge)
-            → IsReady source level len known self.old
-            → IsReady source level (len + 1) known self.new) }
+        ensures ready { OnOk result ((T : Alphabet) (W : List Word)
+            (level len : ℕ) (known : Knowledge) → IsReady T W level len known self.old
+            → IsReady T W level (len + 1) known self.new) }
         ensures counted { OnOk result (IsCounted self.old → IsCounted self.new) }
     {
         if let WayToCount::Open(open) = self {

@@ -2,9 +2,9 @@
 ghost use Rattle.std.specs.Prelude.{ℕ, ◌≡◌, ◌≤◌, ◌<◌, ◌+◌, ◌-◌, ◌*◌, ◌∷◌, [], true, IfOk, OnOk};
 ghost use Rattle.pg_types.specs.declared.limits.TheConstants.{FILE_MAX, LENGTH_MAX, LEVEL_MAX};
 ghost use Rattle.pg_types.specs.Inside.Ranges.{IsLevel};
+ghost use Rattle.pg_select.specs.Sums.{totals as totals_by};
 ghost use Rattle.pg_dict.specs.Inside.SoundWords.{SignsAtMost};
 ghost use Rattle.pg_select.specs.Inside.laws.Steps.{IsBelow};
-ghost use Rattle.pg_driver.specs.Accounts.{totals_by};
 ghost use Rattle.pg_driver.specs.Inside.counting.LevelCounting.{AreNumbersIn, HasEnded, HasSize, IsCounted, IsReady, MayHaveNumbers, TellsTotals};
 ghost use Rattle.pg_dict.specs.Inside.Store.{all_signs};
 ghost use Rattle.pg_starts.specs.Inside.Known.{AreKnown};
@@ -13,7 +13,7 @@ ghost use Rattle.pg_driver.specs.Inside.records.SoundRecords.{IsSmall, IsSoundPa
 ghost use Rattle.pg_types.specs.Inside.Limits.{begun_before_pass, length_passes, level_passes};
 ghost use Rattle.pg_driver.specs.Inside.level.States.{DidPass, IsPass, made_by, state_of, state_at_end};
 ghost use Rattle.pg_driver.specs.Inside.records.RunAccounts.{known_of};
-ghost use Rattle.pg_driver.specs.Traces.{level_trace, passes_of, source_of};
+ghost use Rattle.pg_driver.specs.Traces.{level_trace, passes_of};
 ghost use Rattle.pg_driver.specs.Inside.level.Passes.{passes_of_length};
 
 mod dots;
@@ -46,18 +46,18 @@ fn run_pass<E: Engine>(
     requires level { IsLevel params.now }
     requires begun { (E.meaning engine.old).begun < begun_before_pass }
     requires signs { SignsAtMost (E.meaning engine.old).signs dictionary.now }
-    requires ready { IsReady (source_of table.now dictionary.now) pass.level pass.len
+    requires ready { IsReady table.now dictionary.now pass.level pass.len
         (known_of (E.meaning engine.old))
         counting.old }
     requires numbers { AreNumbersIn dictionary.now pass.len windows.old.counts.numbers counting.old }
     ensures numbers { OnOk result
         (AreNumbersIn dictionary.now pass.len windows.new.counts.numbers counting.new) }
     ensures done { IfOk result
-        (DidPass (source_of table.now dictionary.now) params.now pass (E.meaning engine.old)
+        (DidPass table.now dictionary.now params.now pass (E.meaning engine.old)
         (E.meaning engine.new)) }
     ensures sound { IfOk result IsSoundPass }
     ensures few { IfOk result (λ r. r.chosen ≤ FILE_MAX) }
-    ensures ready { OnOk result (IsReady (source_of table.now dictionary.now) pass.level pass.len
+    ensures ready { OnOk result (IsReady table.now dictionary.now pass.level pass.len
         (known_of (E.meaning engine.new)) counting.new) }
     ensures counted { OnOk result (IsCounted counting.new) }
     ensures signs { (E.meaning engine.new).signs ≡ (E.meaning engine.old).signs }
@@ -132,21 +132,21 @@ fn run_or_skip<E: Engine>(
     requires few { records.old.begun < begun_before_pass }
     requires chosen { records.old.chosen + FILE_MAX < begun_before_pass }
     requires signs { SignsAtMost (E.meaning engine.old).signs dictionary.now }
-    requires ready { IsReady (source_of table.now dictionary.now) pass.level pass.len
+    requires ready { IsReady table.now dictionary.now pass.level pass.len
         (known_of (E.meaning engine.old))
         counting.old }
     requires numbers { MayHaveNumbers dictionary.now pass.len windows.old counting.old }
     ensures numbers { OnOk result
         (MayHaveNumbers dictionary.now pass.len windows.new counting.new) }
-    ensures ok { OnOk result (GoesOn (source_of table.now dictionary.now) pass.level pass.len
-        (made_by (source_of table.now dictionary.now) params.now (E.meaning engine.old) pass ∷ [])
+    ensures ok { OnOk result (GoesOn table.now dictionary.now pass.level pass.len
+        (made_by table.now dictionary.now params.now (E.meaning engine.old) pass ∷ [])
         (point (E.meaning engine.old) records.old skippable.old)
         (point (E.meaning engine.new) records.new skippable.new)) }
     ensures begun { OnOk result
         (BeganAll (E.meaning engine.old) (E.meaning engine.new) records.old records.new) }
     ensures few { OnOk result (records.new.begun ≤ records.old.begun + 1) }
     ensures chosen { OnOk result (records.new.chosen ≤ records.old.chosen + FILE_MAX) }
-    ensures ready { OnOk result (IsReady (source_of table.now dictionary.now) pass.level pass.len
+    ensures ready { OnOk result (IsReady table.now dictionary.now pass.level pass.len
         (known_of (E.meaning engine.new)) counting.new) }
     ensures here { skippable.new.here ≡ skippable.old.here }
     ensures counted { OnOk result
@@ -185,15 +185,15 @@ fn run_length<E: Engine>(
     requires few { records.old.begun + length_passes < begun_before_pass }
     requires chosen { records.old.chosen + length_passes * FILE_MAX < begun_before_pass }
     requires signs { SignsAtMost (E.meaning engine.old).signs dictionary.now }
-    requires ready { IsReady (source_of table.now dictionary.now) number len
+    requires ready { IsReady table.now dictionary.now number len
         (known_of (E.meaning engine.old))
         counting.old }
     requires counts { WillCount skippable.old counting.old }
     requires known { AreKnown (all_signs dictionary.now) windows.old.counts.numbers }
     ensures known { OnOk result
         (AreKnown (all_signs dictionary.now) windows.new.counts.numbers) }
-    ensures ok { OnOk result (GoesOn (source_of table.now dictionary.now) number len
-        (all_made_by (source_of table.now dictionary.now) params.now (E.meaning engine.old)
+    ensures ok { OnOk result (GoesOn table.now dictionary.now number len
+        (all_made_by table.now dictionary.now params.now (E.meaning engine.old)
         (passes_of_length number len)) (point (E.meaning engine.old) records.old skippable.old)
         (point (E.meaning engine.new) records.new skippable.new)) }
     ensures begun { OnOk result
@@ -201,7 +201,7 @@ fn run_length<E: Engine>(
     ensures few { OnOk result (records.new.begun ≤ records.old.begun + length_passes) }
     ensures chosen { OnOk result
         (records.new.chosen ≤ records.old.chosen + length_passes * FILE_MAX) }
-    ensures ready { OnOk result (IsReady (source_of table.now dictionary.now) number len
+    ensures ready { OnOk result (IsReady table.now dictionary.now number len
         (known_of (E.meaning engine.new)) counting.new) }
     ensures counted { OnOk result (IsCounted counting.new) }
     ensures signs { (E.meaning engine.new).signs ≡ (E.meaning engine.old).signs }
@@ -239,27 +239,27 @@ fn run_lengths<E: Engine>(
     requires few { records.old.begun + level_passes < begun_before_pass }
     requires chosen { records.old.chosen ≡ 0 }
     requires signs { SignsAtMost (E.meaning engine.old).signs dictionary.now }
-    requires ready { (len : ℕ) → IsReady (source_of table.now dictionary.now) number len
+    requires ready { (len : ℕ) → IsReady table.now dictionary.now number len
         (known_of (E.meaning engine.old)) counting.old }
     requires known { AreKnown (all_signs dictionary.now) windows.old.counts.numbers }
     ensures known { OnOk result
         (AreKnown (all_signs dictionary.now) windows.new.counts.numbers) }
     ensures state { OnOk result (state_of (E.meaning engine.new)
         ≡ state_at_end (E.meaning engine.old).signs (state_of (E.meaning engine.old))
-        (all_made_by (source_of table.now dictionary.now) params.now (E.meaning engine.old)
+        (all_made_by table.now dictionary.now params.now (E.meaning engine.old)
         (passes_of number params.now))) }
     ensures records { OnOk result
-        (AreRecorded (source_of table.now dictionary.now) (E.meaning engine.old).signs
+        (AreRecorded table.now dictionary.now (E.meaning engine.old).signs
         (E.meaning engine.old).families
-        (all_made_by (source_of table.now dictionary.now) params.now (E.meaning engine.old)
+        (all_made_by table.now dictionary.now params.now (E.meaning engine.old)
         (passes_of number params.now)) records.old records.new) }
     ensures begun { OnOk result
         (BeganAll (E.meaning engine.old) (E.meaning engine.new) records.old records.new) }
     ensures few { OnOk result (records.new.begun ≤ records.old.begun + level_passes) }
     ensures ready { OnOk result
-        (TellsTotals (source_of table.now dictionary.now) (E.meaning engine.new).patterns
+        (TellsTotals table.now dictionary.now (E.meaning engine.new).patterns
         counting.new) }
-    ensures ended { OnOk result (HasEnded (source_of table.now dictionary.now) number
+    ensures ended { OnOk result (HasEnded table.now dictionary.now number
         (E.meaning engine.new).patterns counting.new) }
     ensures signs { (E.meaning engine.new).signs ≡ (E.meaning engine.old).signs }
 {
@@ -308,24 +308,24 @@ pub fn run_level<E: Engine>(
     requires chosen { records.old.chosen ≡ 0 }
     requires signs { SignsAtMost (E.meaning engine.old).signs dictionary.now }
     requires below { greatest < number → IsBelow number (E.meaning engine.old).patterns }
-    requires ended { HasEnded (source_of table.now dictionary.now) (number - 1)
+    requires ended { HasEnded table.now dictionary.now (number - 1)
         (E.meaning engine.old).patterns counting.old }
     requires known { AreKnown (all_signs dictionary.now) windows.old.counts.numbers }
     ensures known { OnOk result
         (AreKnown (all_signs dictionary.now) windows.new.counts.numbers) }
-    ensures done { OnOk result (DidLevel (source_of table.now dictionary.now)
-        (level_trace (source_of table.now dictionary.now)
+    ensures done { OnOk result (DidLevel table.now dictionary.now
+        (level_trace table.now dictionary.now
         (E.meaning engine.old).patterns (number, params.now))
         (E.meaning engine.old) (E.meaning engine.new) records.old records.new) }
     ensures totals { IfOk result (λ after. after
-        ≡ totals_by (source_of table.now dictionary.now) (E.meaning engine.new).patterns) }
+        ≡ totals_by table.now dictionary.now (E.meaning engine.new).patterns) }
     ensures small { IfOk result IsSmall }
     ensures tidy { OnOk result ((E.meaning engine.new).tidy ≡ true) }
     ensures begun { OnOk result
         (BeganAll (E.meaning engine.old) (E.meaning engine.new) records.old records.new) }
     ensures few { OnOk result (records.new.begun ≤ records.old.begun + level_passes) }
     ensures chosen { OnOk result (records.new.chosen ≡ 0) }
-    ensures ended { OnOk result (HasEnded (source_of table.now dictionary.now) number
+    ensures ended { OnOk result (HasEnded table.now dictionary.now number
         (E.meaning engine.new).patterns counting.new) }
     ensures signs { (E.meaning engine.new).signs ≡ (E.meaning engine.old).signs }
 {

@@ -1,14 +1,13 @@
 //! The run over all levels.
 ghost use Rattle.std.specs.Prelude.{◌≡◌, ◌≤◌, ◌<◌, ◌+◌, ◌*◌, [], true, IfOk, OnOk};
 ghost use Rattle.pg_types.specs.declared.limits.TheConstants.{LEVEL_MAX};
+ghost use Rattle.pg_select.specs.Sums.{totals as totals_by};
 ghost use Rattle.pg_dict.specs.Inside.SoundWords.{SignsAtMost};
 ghost use Rattle.pg_patterns.specs.Inside.PatternMaps.{SignsUpTo};
-ghost use Rattle.pg_driver.specs.Accounts.{totals_by};
 ghost use Rattle.pg_driver.specs.Inside.level.Levels.{DidRun};
 ghost use Rattle.pg_driver.specs.Inside.records.SoundRecords.{IsSmall};
 ghost use Rattle.pg_types.specs.Inside.Limits.{begun_before_run, level_passes};
 ghost use Rattle.pg_driver.specs.Inside.records.RunAccounts.{TellsCells, account_from, account_of, begun_from, cells_from, families_from, patterns_from, run_from};
-ghost use Rattle.pg_driver.specs.Traces.{source_of};
 
 use crate::counting::WayToCount;
 use crate::level::run_level;
@@ -36,11 +35,11 @@ fn run_levels<E: Engine>(
     requires begun { (E.meaning engine.old).begun < begun_before_run }
     requires none { records.old ≡ record { passes = []; levels = []; chosen = 0; begun = 0 } }
     requires signs { SignsAtMost (E.meaning engine.old).signs dictionary.now }
-    ensures run { OnOk result (DidRun (source_of table.now dictionary.now)
+    ensures run { OnOk result (DidRun table.now dictionary.now
         (run_from table.now dictionary.now params.now (E.meaning engine.old)) (E.meaning engine.old)
         (E.meaning engine.new) records.new) }
     ensures totals { IfOk result (λ totals. totals
-        ≡ totals_by (source_of table.now dictionary.now) (E.meaning engine.new).patterns) }
+        ≡ totals_by table.now dictionary.now (E.meaning engine.new).patterns) }
     ensures small { IfOk result IsSmall }
     ensures tidy { OnOk result ((E.meaning engine.new).tidy ≡ true) }
     ensures begun { OnOk result

@@ -3,10 +3,9 @@ ghost use Rattle.std.specs.Prelude.{◌≡◌};
 ghost use Rattle.pg_types.specs.Inside.Signs.{SignsWithin};
 ghost use Rattle.pg_dict.specs.Inside.SoundWords.{IsWord, SignsAtMost, letter_count};
 ghost use Rattle.pg_dict.specs.Inside.LentWords.{lent_word};
-ghost use Rattle.pg_select.specs.Sums.{totals as totals_of_words, marks_in};
-ghost use Rattle.pg_select.specs.Inside.SumSteps.{with_marks, HasRoomFor, TookRoomFor};
+ghost use Rattle.pg_select.specs.Sums.{totals as totals_of_words};
+ghost use Rattle.pg_select.specs.Inside.SumSteps.{marks_in, with_marks, HasRoomFor, TookRoomFor};
 ghost use Rattle.pg_driver.specs.Inside.records.SoundRecords.{IsSmall};
-ghost use Rattle.pg_select.specs.CountedPositions.{minima_of};
 
 use pg_dict::{Dictionary, WordRef};
 use pg_select::marks::{add_marks, no_totals};
@@ -20,7 +19,7 @@ use pg_types::Totals;
 pub fn totals<E: Engine>(engine: &E, dictionary: &Dictionary, table: &Table) -> Totals
     requires { SignsAtMost (E.meaning engine.now).signs dictionary.now }
     ensures value { result
-        ≡ totals_of_words (minima_of table.now) dictionary.now (E.meaning engine.now).patterns }
+        ≡ totals_of_words table.now dictionary.now (E.meaning engine.now).patterns }
     ensures small { IsSmall result }
 {
     let mut found = WordState::new();
@@ -44,7 +43,7 @@ fn add_word<E: Engine>(
     requires room { HasRoomFor sums (letter_count (lent_word w.now)) }
     ensures took { TookRoomFor sums result (letter_count (lent_word w.now)) }
     ensures value { result ≡ with_marks sums
-        (marks_in (minima_of table.now) (E.meaning engine.now).patterns (lent_word w.now)) }
+        (marks_in table.now (E.meaning engine.now).patterns (lent_word w.now)) }
 {
     engine.hyphenate(*w, found);
     add_marks(table, w, found, sums)

@@ -6,6 +6,7 @@ use Rattle.std.specs.List.{filter, list_all}
 use Rattle.std.specs.Ordering.{eq_by_cmp}
 use Rattle.std.specs.FinMap.Entries.{put, find, by_order}
 use Rattle.std.proofs.lemmas.Bool.{and_parts, and_from, or_right, le-leb, lt-leb, leb-true, leb-false, eqb-true, not-true}
+use Rattle.pg_translate.specs.Alphabets.{Alphabet}
 use Rattle.pg_dict.specs.Word.{Word}
 use Rattle.pg_patterns.specs.DottedSigns.{dotted_cmp}
 use Rattle.pg_patterns.specs.Inside.DottedOrder.{dotted_exact}
@@ -13,7 +14,8 @@ use Rattle.pg_patterns.specs.Values.{Patterns, value_of, raise, largest}
 use Rattle.pg_select.specs.declared.pass.Pass.{Pass}
 use Rattle.pg_select.specs.Inside.laws.Laws.{raised_all, hopeless_all}
 use Rattle.pg_select.specs.Inside.laws.Steps.{CoversUpTo, IsBelow, IsUpTo, patterns_after_pass, hopeless_after_pass}
-use Rattle.pg_select.specs.CountedPositions.{Minima, Candidate, counted_positions, with_sums}
+use Rattle.pg_select.specs.CountedPositions.{Candidate}
+use Rattle.pg_select.specs.Inside.words.PositionLists.{counted_positions, with_sums}
 use Rattle.pg_select.specs.Windows.{Hopeless}
 use Rattle.pg_select.proofs.LawsNothing.{all_weaker}
 use Rattle.pg_select.proofs.LawsRaised.{AreLong, passing_long}
@@ -47,7 +49,7 @@ up_to_raised level dot n P (c ∷ cs) within upto =
     up_to_raised level dot n (raise P (c.window, dot) level) cs within
     (all_put (λ (e : (List ℕ × ℕ) × ℕ). nat_le e.1 n) (c.window, dot) (max level (value_of P (c.window, dot))) P (le-leb (max level (value_of P (c.window, dot))) n (omega arith)) upto)
 
-pub up_to_after : (m : Minima) (words : List Word) (pass : Pass) (P : Patterns) (H : Hopeless) (raised : Candidate → Bool) (n : ℕ) → pass.level ≤ n
+pub up_to_after : (m : Alphabet) (words : List Word) (pass : Pass) (P : Patterns) (H : Hopeless) (raised : Candidate → Bool) (n : ℕ) → pass.level ≤ n
     → IsUpTo n P → IsUpTo n (patterns_after_pass m words pass P H raised)
 up_to_after m words pass P H raised n within upto = up_to_raised pass.level pass.dot n P (filter raised (with_sums (counted_positions m words pass P H))) within upto
 
@@ -86,7 +88,7 @@ covers_up_to_longer level len P H short = record {
     either true b c more is = refl
     either false b c more is = more is
 
-pub covers_up_to_after : (m : Minima) (words : List Word) (pass : Pass) (P : Patterns) (H : Hopeless) (raised hopeless : Candidate → Bool) → CoversUpTo pass.level pass.len P H
+pub covers_up_to_after : (m : Alphabet) (words : List Word) (pass : Pass) (P : Patterns) (H : Hopeless) (raised hopeless : Candidate → Bool) → CoversUpTo pass.level pass.len P H
     → CoversUpTo pass.level pass.len (patterns_after_pass m words pass P H raised) (hopeless_after_pass m words pass P H hopeless)
 covers_up_to_after m words pass P H raised hopeless short = record {
   patterns = short_raised pass.level pass.dot pass.len P (filter raised (with_sums (counted_positions m words pass P H))) (passing_long raised m words pass P H) short.patterns;

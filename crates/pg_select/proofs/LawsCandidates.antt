@@ -10,6 +10,7 @@ use Rattle.std.proofs.lemmas.Bool.{le-leb, lt-ltb, ltb-true, leb-false, eq-eqb, 
 use Rattle.std.proofs.lemmas.List.{take_all}
 use Rattle.std.proofs.lemmas.List.Folds.{list_all-append}
 use Rattle.std.proofs.lemmas.List.Sums.{AllPass-from_list_all}
+use Rattle.pg_translate.specs.Alphabets.{Alphabet}
 use Rattle.pg_dict.specs.Word.{Word}
 use Rattle.pg_translate.specs.Reach.{positions}
 use Rattle.pg_patterns.specs.DottedSigns.{dotted_cmp}
@@ -20,7 +21,8 @@ use Rattle.pg_patterns.proofs.Joins.{only, value_of_raise}
 use Rattle.pg_select.specs.Statuses.{status_at, position_weight}
 use Rattle.pg_select.specs.Windows.{Hopeless, window, fits, is_covered}
 use Rattle.pg_select.specs.declared.pass.Pass.{Pass}
-use Rattle.pg_select.specs.CountedPositions.{Minima, CountedPosition, counts_as, counted_positions_at, counted_positions, with_window, candidates}
+use Rattle.pg_select.specs.CountedPositions.{counts_as}
+use Rattle.pg_select.specs.Inside.words.PositionLists.{CountedPosition, counted_positions_at, counted_positions, with_window, candidates}
 use Rattle.pg_select.specs.Inside.words.WordCounts.{counted_positions_in}
 use Rattle.pg_select.proofs.LawsCounts.{cmp, window_exact, counted_as}
 
@@ -109,7 +111,7 @@ all_flat test f [] each = refl
 all_flat test f (x ∷ xs) each = list_all-append test (f x) (flat_map f xs) ∙ and_from (list_all test (f x)) (list_all test (flat_map f xs)) (each x) (all_flat test f xs each)
 
 -- what holds of the windows that are not covered holds of those that are counted
-pub all_seen : (test : List ℕ → Bool) (m : Minima) (words : List Word) (pass : Pass) (P : Patterns) (H : Hopeless)
+pub all_seen : (test : List ℕ → Bool) (m : Alphabet) (words : List Word) (pass : Pass) (P : Patterns) (H : Hopeless)
     → ((u : List ℕ) → is_covered pass.level P H u pass.dot ≡ false → test u ≡ true) → list_all (λ (s : CountedPosition). test s.window) (counted_positions m words pass P H) ≡ true
 all_seen test m words pass P H each =
     all_flat (λ (s : CountedPosition). test s.window) (counted_positions_in m pass P H) words (λ w.
@@ -127,7 +129,7 @@ all_seen test m words pass P H each =
         (counts_as pass.level (status_at P w p)) (each (window w.signs p pass.len pass.dot))
 
 -- so each candidate has at the dot a value below the level
-pub candidates_are_low : (m : Minima) (words : List Word) (pass : Pass) (P : Patterns) (H : Hopeless) → 1 ≤ pass.level
+pub candidates_are_low : (m : Alphabet) (words : List Word) (pass : Pass) (P : Patterns) (H : Hopeless) → 1 ≤ pass.level
     → All (λ u. value_of P (u, pass.dot) < pass.level) (candidates (counted_positions m words pass P H))
 candidates_are_low m words pass P H low i d inside =
     let all : list_all (λ (u : List ℕ). nat_lt (value_of P (u, pass.dot)) pass.level) (candidates (counted_positions m words pass P H)) ≡ true =
@@ -141,7 +143,7 @@ same_itself : (k : List ℕ × ℕ) → same_dotted k k ≡ true
 same_itself k = and_from (pointwise nat_eq k.0 k.0) (nat_eq k.1 k.1) (itself k.0) (eq-eqb k.1 k.1 refl)
 
 -- and gets exactly the level when it is chosen
-pub chosen_get_level : (m : Minima) (words : List Word) (pass : Pass) (P : Patterns) (H : Hopeless) → 1 ≤ pass.level
+pub chosen_get_level : (m : Alphabet) (words : List Word) (pass : Pass) (P : Patterns) (H : Hopeless) → 1 ≤ pass.level
     → All (λ u. value_of (raise P (u, pass.dot) pass.level) (u, pass.dot) ≡ pass.level) (candidates (counted_positions m words pass P H))
 chosen_get_level m words pass P H low i d inside = gets _ (candidates_are_low m words pass P H low i d inside)
   where

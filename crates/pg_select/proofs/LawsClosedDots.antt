@@ -5,6 +5,7 @@ use Rattle.std.proofs.lemmas.Bool.{and_parts, and_from, leb-true, eqb-true, case
 use Rattle.pg_types.specs.declared.limits.TheConstants.{LENGTH_MAX}
 use Rattle.pg_types.specs.declared.marks.Mark.{Mark}
 use Rattle.pg_types.specs.declared.marks.Mark.TheVariants.{Nothing, Error, Missed, Found, DontCare}
+use Rattle.pg_translate.specs.Alphabets.{Alphabet}
 use Rattle.pg_dict.specs.Word.{Word}
 use Rattle.pg_patterns.specs.Values.{Patterns, applies, greatest_value, value_at}
 use Rattle.pg_patterns.proofs.Joins.{only}
@@ -12,13 +13,13 @@ use Rattle.pg_select.specs.Inside.laws.Laws.{IsLater}
 use Rattle.pg_select.specs.Statuses.{is_odd, status, status_at}
 use Rattle.pg_select.specs.Windows.{Hopeless, window, fits, is_covered}
 use Rattle.pg_select.specs.declared.pass.Pass.{Pass}
-use Rattle.pg_select.specs.CountedPositions.{Minima, Candidate, counts_as, counted_at, counted_positions, with_sums}
+use Rattle.pg_select.specs.CountedPositions.{Candidate, counts_as, counted_at}
+use Rattle.pg_select.specs.Inside.words.PositionLists.{counted_positions, with_sums}
 use Rattle.pg_select.proofs.LawsLater.{none_at_level, counted_back}
 use Rattle.pg_select.proofs.LawsNothing.{later_after_pass}
 use Rattle.pg_select.proofs.LawsCounts.{is_counted_window}
 use Rattle.pg_select.specs.Inside.laws.Steps.{CoversUpTo, IsBelow, IsUpTo, candidate_at, is_candidate, patterns_after_pass, hopeless_after_pass}
-use Rattle.pg_select.specs.Inside.laws.ClosedDots.{closed_at_next_length}
-use Rattle.pg_select.specs.Inside.laws.ClosedDots.{is_good, pass_at, TellCounted, closed_after, Stays}
+use Rattle.pg_select.specs.Inside.laws.ClosedDots.{closed_at_next_length, is_good, pass_at, TellCounted, closed_after, Stays}
 use Rattle.pg_select.proofs.LawsLengths.{length_step, nothing_covered, fits_parts, fits_from}
 use Rattle.pg_select.proofs.LawsRaised.{counted_uncovered, values_after, covers_after}
 
@@ -119,7 +120,7 @@ best_up_to level t (e ∷ es) upto =
     at_most false n low = omega arith
 
 -- the value of a position whose window was raised is the level, so it does not count
-pub raised_stop : (m : Minima) (words : List Word) (pass : Pass) (P : Patterns) (H : Hopeless) (raised : Candidate → Bool) (w : Word) (p : ℕ)
+pub raised_stop : (m : Alphabet) (words : List Word) (pass : Pass) (P : Patterns) (H : Hopeless) (raised : Candidate → Bool) (w : Word) (p : ℕ)
     → IsUpTo pass.level P → fits w.signs p pass.len pass.dot ≡ true → is_candidate raised (counted_positions m words pass P H) (window w.signs p pass.len pass.dot) ≡ true
     → counts_as pass.level (status_at (patterns_after_pass m words pass P H raised) w p) ≡ None
 raised_stop m words pass P H raised w p upto fit is =
@@ -132,7 +133,7 @@ raised_stop m words pass P H raised w p upto fit is =
     ∙ highest)
     ∙ none_at_level (slice_index_or w.hyphens p false) (slice_index_or w.cares p true) pass.level
 
-status_same : (m : Minima) (words : List Word) (pass : Pass) (P : Patterns) (H : Hopeless) (raised : Candidate → Bool) (w : Word) (p : ℕ)
+status_same : (m : Alphabet) (words : List Word) (pass : Pass) (P : Patterns) (H : Hopeless) (raised : Candidate → Bool) (w : Word) (p : ℕ)
     → (fits w.signs p pass.len pass.dot && is_candidate raised (counted_positions m words pass P H) (window w.signs p pass.len pass.dot)) ≡ false
     → status_at (patterns_after_pass m words pass P H raised) w p ≡ status_at P w p
 status_same m words pass P H raised w p none =
@@ -142,7 +143,7 @@ status_same m words pass P H raised w p none =
     zero : (n : ℕ) → max 0 n ≡ n
     zero n = omega arith
 
-module _ (m : Minima) (words : List Word) (pass : Pass) (P : Patterns) (H : Hopeless) (raised hopeless : Candidate → Bool) (w : Word) (p : ℕ) where
+module _ (m : Alphabet) (words : List Word) (pass : Pass) (P : Patterns) (H : Hopeless) (raised hopeless : Candidate → Bool) (w : Word) (p : ℕ) where
   later : IsLater pass.level P H (patterns_after_pass m words pass P H raised) (hopeless_after_pass m words pass P H hopeless)
   later = later_after_pass pass.level pass.dot P H (filter raised (with_sums (counted_positions m words pass P H))) (filter hopeless (with_sums (counted_positions m words pass P H)))
 

@@ -7,11 +7,19 @@ use Rattle.std.specs.Cmp.Lexicographic.{slice_cmp, nat_list_cmp_total}
 use Rattle.std.specs.Option.{option_map_or}
 use Rattle.std.specs.FinMap.{nat_cmp-IsAntisymmetric, slice_cmp-IsAntisymmetric}
 use Rattle.std.specs.FinMap.Entries.{find, is_sorted, below_all, is_sorted-put, find-put, find_tied, same_entries, is_some-find}
-use Rattle.std.specs.List.{list_any}
-use Rattle.std.proofs.lemmas.List.Sums.{sum_by-cons}
+use Rattle.std.specs.List.{list_any, flat_map}
+use Rattle.std.proofs.lemmas.List.Sums.{sum_by-cons, fold-append}
 use Rattle.pg_types.proofs.BoolFacts.{equal_is}
 use Rattle.pg_patterns.proofs.Ordered.{sorted_at}
-use Rattle.pg_select.specs.CountedPositions.{CountedPosition, Candidate, same_signs, with_window, candidates, good_of, bad_of, with_sums}
+use Rattle.pg_select.specs.CountedPositions.{Candidate, counted_at, sums_with, sums_at, candidates_of}
+use Rattle.pg_translate.specs.Alphabets.{Alphabet}
+use Rattle.pg_translate.specs.Reach.{positions}
+use Rattle.pg_dict.specs.Word.{Word}
+use Rattle.pg_patterns.specs.Values.{Patterns}
+use Rattle.pg_select.specs.declared.pass.Pass.{Pass}
+use Rattle.pg_select.specs.Statuses.{position_weight}
+use Rattle.pg_select.specs.Windows.{Hopeless, window}
+use Rattle.pg_select.specs.Inside.words.PositionLists.{counted_positions_at, counted_positions, CountedPosition, same_signs, with_window, candidates, good_of, bad_of, with_sums}
 use Rattle.pg_types.specs.Inside.counting.Counts.{Counts, sums_of, with_weight}
 use Rattle.pg_select.specs.Inside.engine.Meanings.{with_position}
 use Rattle.pg_select.specs.Inside.laws.Laws.{counts_entry_of}
@@ -176,3 +184,39 @@ candidates_in_order counted i j d before inside =
 -- and are the windows that are counted
 pub candidates_are_counted : (counted : List CountedPosition) (u : List ℕ) → list_any (same_signs u) (candidates counted) ≡ is_counted_window counted u
 candidates_are_counted counted u = sym (is_some-find cmp u (fold with_window [] counted)) ∙ windows_found u [] counted
+
+-- the sums of a pass, position by position, are the counts of the list of what it counts
+fold_flat : {X Y Z : Type 0} (f : Z → Y → Z) (g : X → List Y) (z : Z) (xs : List X) → fold (λ a x. fold f a (g x)) z xs ≡ fold f z (flat_map g xs)
+fold_flat f g z [] = refl
+fold_flat f g z (x ∷ xs) = fold_flat f g (fold f z (g x)) xs ∙ sym (fold-append f z (g x) (flat_map g xs))
+
+fold_same : {X Z : Type 0} (f g : Z → X → Z) → ((z : Z) (x : X) → f z x ≡ g z x) → (z : Z) (xs : List X) → fold f z xs ≡ fold g z xs
+fold_same f g same z [] = refl
+fold_same f g same z (x ∷ xs) = fold_same f g same (f z x) xs ∙ ap (λ a. fold g a xs) (same z x)
+
+one_at : (counts : Counts) (u : List ℕ) (weight : ℕ) (counted : Option Bool) → option_map_or (sums_with counts u weight) counted counts ≡ fold with_position counts (counted_as u weight counted)
+one_at counts u weight None = refl
+one_at counts u weight (Some good) = refl
+
+word_at : (pass : Pass) (P : Patterns) (H : Hopeless) (w : Word) (counts : Counts) (ps : List ℕ) → fold (sums_at pass P H w) counts ps ≡ fold with_position counts (flat_map (counted_positions_at pass P H w) ps)
+word_at pass P H w counts ps =
+    fold_same (sums_at pass P H w) (λ a p. fold with_position a (counted_positions_at pass P H w p))
+    (λ a p. one_at a (window w.signs p pass.len pass.dot) (position_weight w p) (counted_at pass P H w p)) counts ps
+    ∙ fold_flat with_position (counted_positions_at pass P H w) counts ps
+
+-- what a pass counts, as one fold
+abbrev pub sums_in : Alphabet → List Word → Pass → Patterns → Hopeless → Counts
+sums_in T W pass P H = fold (λ counts (w : Word). fold (sums_at pass P H w) counts (positions T.left T.right (length w.signs))) [] W
+
+pub sums_are_counts : (T : Alphabet) (W : List Word) (pass : Pass) (P : Patterns) (H : Hopeless) → sums_in T W pass P H ≡ fold with_position [] (counted_positions T W pass P H)
+sums_are_counts T W pass P H =
+    fold_same (λ counts (w : Word). fold (sums_at pass P H w) counts (positions T.left T.right (length w.signs)))
+    (λ counts (w : Word). fold with_position counts (flat_map (counted_positions_at pass P H w) (positions T.left T.right (length w.signs))))
+    (λ counts (w : Word). word_at pass P H w counts (positions T.left T.right (length w.signs))) [] W
+    ∙ fold_flat with_position (λ (w : Word). flat_map (counted_positions_at pass P H w) (positions T.left T.right (length w.signs))) [] W
+
+-- the candidates of a pass are those of the list of what it counts
+pub candidates_listed : (T : Alphabet) (W : List Word) (pass : Pass) (P : Patterns) (H : Hopeless) → candidates_of T W pass P H ≡ with_sums (counted_positions T W pass P H)
+candidates_listed T W pass P H =
+    ap (λ (counts : Counts). map candidate_of counts) (sums_are_counts T W pass P H)
+    ∙ sym (with_sums_is (counted_positions T W pass P H))

@@ -4,6 +4,7 @@ use Rattle.std.specs.List.{flat_map, slice_index_or}
 use Rattle.std.specs.FinMap.Entries.{put}
 use Rattle.std.proofs.lemmas.Bool.{and_parts, and_from, or_right}
 use Rattle.pg_types.specs.declared.marks.Mark.TheVariants.{Nothing, Error, Missed, Found}
+use Rattle.pg_translate.specs.Alphabets.{Alphabet}
 use Rattle.pg_dict.specs.Word.{Word}
 use Rattle.pg_translate.specs.Reach.{positions}
 use Rattle.pg_patterns.specs.DottedSigns.{dotted_cmp}
@@ -11,7 +12,8 @@ use Rattle.pg_patterns.specs.Values.{Patterns, raise, applies, value_at}
 use Rattle.pg_select.specs.Statuses.{is_odd, status, status_at, position_weight}
 use Rattle.pg_select.specs.Windows.{Hopeless, window, fits, is_covered}
 use Rattle.pg_select.specs.declared.pass.Pass.{Pass}
-use Rattle.pg_select.specs.CountedPositions.{Minima, counts_as, counted_at, counted_positions_at, counted_positions}
+use Rattle.pg_select.specs.CountedPositions.{counts_as, counted_at}
+use Rattle.pg_select.specs.Inside.words.PositionLists.{counted_positions_at, counted_positions}
 use Rattle.pg_select.specs.Inside.words.WordCounts.{counted_positions_in}
 use Rattle.pg_select.specs.Inside.laws.Laws.{IsLater}
 use Rattle.pg_select.proofs.LawsCounts.{counted_as}
@@ -114,7 +116,7 @@ unseen_more u v x None (Some g) back is = cc (back g refl)
 unseen_more u v x (Some h) (Some g) back is = cc
 
 -- where nothing is counted, nothing is counted in a pass in which no other position is counted
-pub closed_more : (m : Minima) (words : List Word) (pass other : Pass) (P P' : Patterns) (H H' : Hopeless)
+pub closed_more : (m : Alphabet) (words : List Word) (pass other : Pass) (P P' : Patterns) (H H' : Hopeless)
     → ((w : Word) (p : ℕ) (g : Bool) → counted_at other P' H' w p ≡ Some g → counted_at pass P H w p ≡ Some g) → counted_positions m words pass P H ≡ [] → counted_positions m words other P' H' ≡ []
 closed_more m words pass other P P' H H' back is =
     nil_more (counted_positions_in m pass P H) (counted_positions_in m other P' H') (λ w.
@@ -122,6 +124,6 @@ closed_more m words pass other P P' H H' back is =
     (λ p. unseen_more (window w.signs p pass.len pass.dot) (window w.signs p other.len other.dot) (position_weight w p) (counted_at pass P H w p) (counted_at other P' H' w p) (back w p))
     (positions m.left m.right (length w.signs))) words is
 
-pub nothing_later : (m : Minima) (words : List Word) (pass : Pass) (P P' : Patterns) (H H' : Hopeless) → IsLater pass.level P H P' H'
+pub nothing_later : (m : Alphabet) (words : List Word) (pass : Pass) (P P' : Patterns) (H H' : Hopeless) → IsLater pass.level P H P' H'
     → counted_positions m words pass P H ≡ [] → counted_positions m words pass P' H' ≡ []
 nothing_later m words pass P P' H H' later is = closed_more m words pass pass P P' H H' (λ w p g counted. counted_back pass P P' H H' w p g later counted) is

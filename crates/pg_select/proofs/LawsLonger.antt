@@ -4,12 +4,14 @@ use Rattle.std.specs.List.{list_any}
 use Rattle.std.specs.Cmp.Lexicographic.{pointwise}
 use Rattle.std.proofs.lemmas.Bool.{and_parts, and_from, le-leb, leb-true, or_left, or_right}
 use Rattle.std.proofs.lemmas.List.{take-take, drop-take, drop-drop}
+use Rattle.pg_translate.specs.Alphabets.{Alphabet}
 use Rattle.pg_dict.specs.Word.{Word}
 use Rattle.pg_patterns.specs.Values.{Patterns, stands_at, applies}
 use Rattle.pg_select.specs.Statuses.{status_at}
 use Rattle.pg_select.specs.Windows.{Hopeless, window, fits, is_covered}
 use Rattle.pg_select.specs.declared.pass.Pass.{Pass}
-use Rattle.pg_select.specs.CountedPositions.{Minima, counts_as, counted_at, counted_positions}
+use Rattle.pg_select.specs.CountedPositions.{counts_as, counted_at}
+use Rattle.pg_select.specs.Inside.words.PositionLists.{counted_positions}
 use Rattle.pg_select.specs.Inside.laws.Laws.{longer_behind, longer_before}
 use Rattle.pg_select.proofs.LawsLater.{some_parts, some_from, uncovered_back, closed_more}
 
@@ -123,10 +125,10 @@ pub counted_before : (pass : Pass) (P : Patterns) (H : Hopeless) (w : Word) (p :
 counted_before pass P H w p good is = counted_in pass (longer_before pass) P H w p good refl (before_inner w.signs p pass.len pass.dot) is
 
 -- so where a pass counts nothing, the longer ones count nothing
-pub nothing_behind : (m : Minima) (words : List Word) (pass : Pass) (P : Patterns) (H : Hopeless) → counted_positions m words pass P H
+pub nothing_behind : (m : Alphabet) (words : List Word) (pass : Pass) (P : Patterns) (H : Hopeless) → counted_positions m words pass P H
     ≡ [] → counted_positions m words (longer_behind pass) P H ≡ []
 nothing_behind m words pass P H is = closed_more m words pass (longer_behind pass) P P H H (λ w p g counted. counted_behind pass P H w p g counted) is
 
-pub nothing_before : (m : Minima) (words : List Word) (pass : Pass) (P : Patterns) (H : Hopeless) → counted_positions m words pass P H
+pub nothing_before : (m : Alphabet) (words : List Word) (pass : Pass) (P : Patterns) (H : Hopeless) → counted_positions m words pass P H
     ≡ [] → counted_positions m words (longer_before pass) P H ≡ []
 nothing_before m words pass P H is = closed_more m words pass (longer_before pass) P P H H (λ w p g counted. counted_before pass P H w p g counted) is

@@ -7,6 +7,7 @@ use Rattle.std.specs.Cmp.Lexicographic.{nat_list_cmp_total}
 use Rattle.std.specs.FinMap.Entries.{put}
 use Rattle.std.proofs.lemmas.Bool.{and_parts, and_from, not-true, or_cases, or_left, or_right}
 use Rattle.std.proofs.lemmas.List.Folds.{list_all-append}
+use Rattle.pg_translate.specs.Alphabets.{Alphabet}
 use Rattle.pg_dict.specs.Word.{Word}
 use Rattle.pg_translate.specs.Reach.{positions}
 use Rattle.pg_patterns.specs.DottedSigns.{dotted_cmp}
@@ -14,7 +15,8 @@ use Rattle.pg_patterns.specs.Values.{Patterns, raise, applies}
 use Rattle.pg_select.specs.Statuses.{status_at, position_weight}
 use Rattle.pg_select.specs.Windows.{Hopeless, window, fits, is_covered}
 use Rattle.pg_select.specs.declared.pass.Pass.{Pass}
-use Rattle.pg_select.specs.CountedPositions.{Minima, CountedPosition, Candidate, counts_as, counted_at, counted_positions_at, counted_positions, same_signs, candidates, good_of, bad_of, with_sums}
+use Rattle.pg_select.specs.CountedPositions.{Candidate, counts_as, counted_at}
+use Rattle.pg_select.specs.Inside.words.PositionLists.{CountedPosition, counted_positions_at, counted_positions, same_signs, candidates, good_of, bad_of, with_sums}
 use Rattle.pg_select.specs.Inside.words.WordCounts.{counted_positions_in}
 use Rattle.pg_select.specs.Inside.laws.Laws.{IsLater, raised_all, hopeless_all}
 use Rattle.pg_select.proofs.LawsCounts.{same_window, counted_as}
@@ -83,7 +85,7 @@ nil_tested {Y = Y} test f g each (x ∷ xs) all =
     ap (λ (ys : List Y). ys ++ flat_map g xs) (each x parts.0) ∙ nil_tested test f g each xs parts.1
 
 -- where all that a pass counted is covered later, it counts nothing then
-pub nothing_counts_when_covered : (m : Minima) (words : List Word) (pass : Pass) (P P' : Patterns) (H H' : Hopeless) → IsLater pass.level P H P' H'
+pub nothing_counts_when_covered : (m : Alphabet) (words : List Word) (pass : Pass) (P P' : Patterns) (H H' : Hopeless) → IsLater pass.level P H P' H'
     → list_all (λ u. is_covered pass.level P' H' u pass.dot) (candidates (counted_positions m words pass P H)) ≡ true → counted_positions m words pass P' H' ≡ []
 nothing_counts_when_covered m words pass P P' H H' later all =
     nil_tested (λ (s : CountedPosition). is_covered pass.level P' H' s.window pass.dot) (counted_positions_in m pass P H) (counted_positions_in m pass P' H') (λ w.
@@ -162,7 +164,7 @@ windows_of test counted [] = refl
 windows_of test counted (u ∷ us) = ap (λ b. test u && b) (windows_of test counted us)
 
 -- a pass of which each candidate was raised or made hopeless counts nothing afterwards
-pub nothing_counts_after : (m : Minima) (words : List Word) (pass : Pass) (P : Patterns) (H : Hopeless) (raised hopeless : Candidate → Bool)
+pub nothing_counts_after : (m : Alphabet) (words : List Word) (pass : Pass) (P : Patterns) (H : Hopeless) (raised hopeless : Candidate → Bool)
     → list_all (λ c. raised c || hopeless c) (with_sums (counted_positions m words pass P H)) ≡ true
     → counted_positions m words pass (raised_all pass.level pass.dot P (filter raised (with_sums (counted_positions m words pass P H))))
     (hopeless_all pass.dot H (filter hopeless (with_sums (counted_positions m words pass P H)))) ≡ []

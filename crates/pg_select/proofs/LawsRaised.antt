@@ -8,6 +8,7 @@ use Rattle.std.specs.FinMap.Entries.{put}
 use Rattle.std.proofs.lemmas.Bool.{and_parts, and_from, leb-true, eq-eqb, eqb-true, not-true, or_cases}
 use Rattle.std.proofs.lemmas.List.{take_all}
 use Rattle.std.proofs.lemmas.List.Folds.{list_all-map}
+use Rattle.pg_translate.specs.Alphabets.{Alphabet}
 use Rattle.pg_dict.specs.Word.{Word}
 use Rattle.pg_translate.specs.Reach.{positions}
 use Rattle.pg_patterns.specs.DottedSigns.{dotted_cmp}
@@ -17,7 +18,8 @@ use Rattle.pg_select.specs.Inside.laws.Laws.{raised_all, hopeless_all}
 use Rattle.pg_select.specs.Statuses.{status_at, position_weight}
 use Rattle.pg_select.specs.Windows.{Hopeless, window, fits, is_covered}
 use Rattle.pg_select.specs.declared.pass.Pass.{Pass}
-use Rattle.pg_select.specs.CountedPositions.{Minima, CountedPosition, Candidate, counts_as, counted_positions_at, counted_positions, same_signs, candidates, with_sums}
+use Rattle.pg_select.specs.CountedPositions.{Candidate, counts_as}
+use Rattle.pg_select.specs.Inside.words.PositionLists.{CountedPosition, counted_positions_at, counted_positions, same_signs, candidates, with_sums}
 use Rattle.pg_select.specs.Inside.words.WordCounts.{counted_positions_in}
 use Rattle.pg_select.proofs.LawsCounts.{same_window, counted_as, is_counted_window, candidates_are_counted}
 use Rattle.pg_select.proofs.LawsValues.{raised_value, covered_raised, covered_hopeless}
@@ -31,7 +33,7 @@ pub same_itself : (u : List ℕ) → same_signs u u ≡ true
 same_itself u = ap is_eq (tied_itself nat_list_cmp_total u)
 
 -- what holds of the windows that fit and are not covered holds of those that are counted
-pub all_seen : (test : List ℕ → Bool) (m : Minima) (words : List Word) (pass : Pass) (P : Patterns) (H : Hopeless)
+pub all_seen : (test : List ℕ → Bool) (m : Alphabet) (words : List Word) (pass : Pass) (P : Patterns) (H : Hopeless)
     → ((w : List ℕ) (p : ℕ) → fits w p pass.len pass.dot ≡ true → is_covered pass.level P H (window w p pass.len pass.dot) pass.dot ≡ false → test (window w p pass.len pass.dot) ≡ true)
     → list_all (λ (s : CountedPosition). test s.window) (counted_positions m words pass P H) ≡ true
 all_seen test m words pass P H each =
@@ -62,7 +64,7 @@ all_of_seen test u (s ∷ counted) all is =
     (or_cases (same_signs u s.window) (is_counted_window counted u) is)
 
 -- the windows that are counted have the length of the pass, and none is covered
-pub counted_uncovered : (m : Minima) (words : List Word) (pass : Pass) (P : Patterns) (H : Hopeless) (u : List ℕ) → is_counted_window (counted_positions m words pass P H) u
+pub counted_uncovered : (m : Alphabet) (words : List Word) (pass : Pass) (P : Patterns) (H : Hopeless) (u : List ℕ) → is_counted_window (counted_positions m words pass P H) u
     ≡ true → (length u ≡ pass.len) × (is_covered pass.level P H u pass.dot ≡ false)
 counted_uncovered m words pass P H u is =
     let tested = all_of_seen (λ (v : List ℕ). nat_eq (length v) pass.len && not (is_covered pass.level P H v pass.dot)) u (counted_positions m words pass P H)
@@ -122,7 +124,7 @@ all_kept t q (x ∷ xs) all =
 abbrev pub AreLong : ℕ → List Candidate → Type 0
 AreLong len cs = list_all (λ (c : Candidate). nat_eq (length c.window) len) cs ≡ true
 
-pub passing_long : (test : Candidate → Bool) (m : Minima) (words : List Word) (pass : Pass) (P : Patterns) (H : Hopeless)
+pub passing_long : (test : Candidate → Bool) (m : Alphabet) (words : List Word) (pass : Pass) (P : Patterns) (H : Hopeless)
     → AreLong pass.len (filter test (with_sums (counted_positions m words pass P H)))
 passing_long test m words pass P H =
     let counted : List CountedPosition = counted_positions m words pass P H in
@@ -240,7 +242,7 @@ cover_hopeless level dot P H u d (c ∷ cs) =
     ∙ ap (λ b. list_any (λ (x : Candidate). applies u d (x.window, dot)) cs || b) (covered_hopeless level P H (c.window, dot) u d)
     ∙ turned (applies u d (c.window, dot)) (list_any (λ (x : Candidate). applies u d (x.window, dot)) cs) (is_covered level P H u d)
 
-pub values_after : (m : Minima) (words : List Word) (pass : Pass) (P : Patterns) (H : Hopeless) (raised : Candidate → Bool) (w : List ℕ) (p : ℕ)
+pub values_after : (m : Alphabet) (words : List Word) (pass : Pass) (P : Patterns) (H : Hopeless) (raised : Candidate → Bool) (w : List ℕ) (p : ℕ)
     → value_at (patterns_after_pass m words pass P H raised) w p ≡ max
     (cond (fits w p pass.len pass.dot && is_candidate raised (counted_positions m words pass P H) (window w p pass.len pass.dot)) pass.level 0) (value_at P w p)
 values_after m words pass P H raised w p =
@@ -249,7 +251,7 @@ values_after m words pass P H raised w p =
     (any_applies w p pass.len pass.dot (filter raised (with_sums (counted_positions m words pass P H))) (passing_long raised m words pass P H)
     ∙ ap (λ b. fits w p pass.len pass.dot && b) (among_candidates raised (counted_positions m words pass P H) (window w p pass.len pass.dot)))
 
-pub covers_after : (m : Minima) (words : List Word) (pass : Pass) (P : Patterns) (H : Hopeless) (raised hopeless : Candidate → Bool) (w : List ℕ) (p d : ℕ) → fits w p pass.len d ≡ true
+pub covers_after : (m : Alphabet) (words : List Word) (pass : Pass) (P : Patterns) (H : Hopeless) (raised hopeless : Candidate → Bool) (w : List ℕ) (p d : ℕ) → fits w p pass.len d ≡ true
     → is_covered pass.level (patterns_after_pass m words pass P H raised) (hopeless_after_pass m words pass P H hopeless) (window w p pass.len d) d
     ≡ ((nat_eq d pass.dot && (is_candidate raised (counted_positions m words pass P H) (window w p pass.len pass.dot)
     || is_candidate hopeless (counted_positions m words pass P H) (window w p pass.len pass.dot))) || is_covered pass.level P H (window w p pass.len d) d)

@@ -13,6 +13,7 @@ use Rattle.std.proofs.lemmas.List.Sums.{sum_by-cons, sum_by-append}
 use Rattle.pg_types.specs.declared.limits.TheConstants.{WEIGHT_MAX, FILE_MAX}
 use Rattle.pg_types.specs.declared.marks.Mark.{Mark}
 use Rattle.pg_types.specs.declared.marks.Mark.TheVariants.{Nothing, Error, Missed, Found, DontCare}
+use Rattle.pg_translate.specs.Alphabets.{Alphabet}
 use Rattle.pg_translate.specs.Reach.{positions}
 use Rattle.pg_dict.specs.Word.{Word}
 use Rattle.pg_dict.specs.Inside.SoundWords.{IsWord, letter_count}
@@ -20,10 +21,11 @@ use Rattle.pg_patterns.specs.Values.{Patterns}
 use Rattle.pg_select.specs.Statuses.{status_at, position_weight}
 use Rattle.pg_select.specs.Windows.{Hopeless, window}
 use Rattle.pg_select.specs.declared.pass.Pass.{Pass}
-use Rattle.pg_select.specs.CountedPositions.{Minima, CountedPosition, counted_at, counted_positions_at, counted_positions, same_signs, with_window, candidates, good_of, bad_of}
+use Rattle.pg_select.specs.CountedPositions.{counted_at}
+use Rattle.pg_select.specs.Inside.words.PositionLists.{CountedPosition, counted_positions_at, counted_positions, same_signs, with_window, candidates, good_of, bad_of}
 use Rattle.pg_select.specs.Inside.words.WordCounts.{counted_positions_in}
-use Rattle.pg_select.specs.Sums.{weight_of, marks_in, totals}
-use Rattle.pg_select.specs.Inside.SumSteps.{is_found, is_error, is_missed}
+use Rattle.pg_select.specs.Sums.{weight_of, totals}
+use Rattle.pg_select.specs.Inside.SumSteps.{marks_in, is_found, is_error, is_missed}
 use Rattle.pg_select.specs.Inside.laws.Laws.{AreFew, number_of_positions}
 use Rattle.pg_select.proofs.LawsCounts.{cmp, counted_as, keys_length}
 
@@ -46,10 +48,10 @@ positions_few left right signs low = by_test (nat_le (left + right + 2) signs) (
         let enough : left + right + 2 ≤ signs = long refl in
         omega (arith, length-range_with_len (left + 1) (signs - right - 1 + 1 - (left + 1)))
 
-abbrev reached : Minima → Word → ℕ
+abbrev reached : Alphabet → Word → ℕ
 reached m w = length (positions m.left m.right (length w.signs))
 
-pub positions_within : (m : Minima) (words : List Word) → 1 ≤ m.left → number_of_positions m words ≤ sum_by letter_count words
+pub positions_within : (m : Alphabet) (words : List Word) → 1 ≤ m.left → number_of_positions m words ≤ sum_by letter_count words
 positions_within m [] low = omega arith
 positions_within m (w ∷ ws) low =
     let rest : number_of_positions m ws ≤ sum_by letter_count ws = positions_within m ws low in
@@ -102,7 +104,7 @@ three_within (e ∷ es) =
     )
 
 -- the totals are within the weights of the positions in reach
-pub totals_within : (m : Minima) (words : List Word) (P : Patterns) → All IsWord words
+pub totals_within : (m : Alphabet) (words : List Word) (P : Patterns) → All IsWord words
     → (totals m words P).good + (totals m words P).bad + (totals m words P).missed ≤ WEIGHT_MAX * number_of_positions m words
 totals_within m words P each =
     let whole : sum_by (λ (e : Mark × ℕ). e.1) (flat_map (marks_in m P) words) ≤ WEIGHT_MAX * number_of_positions m words
@@ -129,7 +131,7 @@ seen_in pass P H w word (p ∷ ps) =
     )
 
 -- what a pass counts is within the weights of the positions in reach
-pub weights_within : (m : Minima) (words : List Word) (pass : Pass) (P : Patterns) (H : Hopeless) → All IsWord words
+pub weights_within : (m : Alphabet) (words : List Word) (pass : Pass) (P : Patterns) (H : Hopeless) → All IsWord words
     → sum_by (λ (s : CountedPosition). s.weight) (counted_positions m words pass P H) ≤ WEIGHT_MAX * number_of_positions m words
 weights_within m words pass P H each =
     parts_within (counted_positions_in m pass P H) (λ (s : CountedPosition). s.weight) WEIGHT_MAX (reached m) IsWord
@@ -165,7 +167,7 @@ counted_few_in pass P H w (p ∷ ps) =
     )
 
 -- a pass counts no more than positions in reach
-pub counted_few : (m : Minima) (words : List Word) (pass : Pass) (P : Patterns) (H : Hopeless) → length (counted_positions m words pass P H) ≤ number_of_positions m words
+pub counted_few : (m : Alphabet) (words : List Word) (pass : Pass) (P : Patterns) (H : Hopeless) → length (counted_positions m words pass P H) ≤ number_of_positions m words
 counted_few m [] pass P H = omega arith
 counted_few m (w ∷ ws) pass P H =
     omega (
@@ -177,7 +179,7 @@ counted_few m (w ∷ ws) pass P H =
     )
 
 -- and has no more candidates
-pub candidates_few : (m : Minima) (words : List Word) (pass : Pass) (P : Patterns) (H : Hopeless) → length (candidates (counted_positions m words pass P H)) ≤ number_of_positions m words
+pub candidates_few : (m : Alphabet) (words : List Word) (pass : Pass) (P : Patterns) (H : Hopeless) → length (candidates (counted_positions m words pass P H)) ≤ number_of_positions m words
 candidates_few m words pass P H = omega (
   arith,
   counted_few m words pass P H,
@@ -189,15 +191,15 @@ small : (n k : ℕ) → n ≤ WEIGHT_MAX * k → k ≤ FILE_MAX → n < 2 ^ 40
 small n k light few = omega arith
 
 -- the totals are small where no more positions are in reach than letters
-pub totals_small_within : (m : Minima) (words : List Word) (P : Patterns) → number_of_positions m words ≤ sum_by letter_count words → AreFew words
+pub totals_small_within : (m : Alphabet) (words : List Word) (P : Patterns) → number_of_positions m words ≤ sum_by letter_count words → AreFew words
     → (totals m words P).good + (totals m words P).bad + (totals m words P).missed < 2 ^ 40
 totals_small_within m words P upto few = small ((totals m words P).good + (totals m words P).bad + (totals m words P).missed) (number_of_positions m words)
     (totals_within m words P few.each) (omega (arith, few.letters))
 
-pub totals_small : (m : Minima) (words : List Word) (P : Patterns) → 1 ≤ m.left → AreFew words → (totals m words P).good + (totals m words P).bad + (totals m words P).missed < 2 ^ 40
+pub totals_small : (m : Alphabet) (words : List Word) (P : Patterns) → 1 ≤ m.left → AreFew words → (totals m words P).good + (totals m words P).bad + (totals m words P).missed < 2 ^ 40
 totals_small m words P low few = totals_small_within m words P (positions_within m words low) few
 
-pub counted_light : (m : Minima) (words : List Word) (pass : Pass) (P : Patterns) (H : Hopeless) → 1 ≤ m.left → AreFew words
+pub counted_light : (m : Alphabet) (words : List Word) (pass : Pass) (P : Patterns) (H : Hopeless) → 1 ≤ m.left → AreFew words
     → sum_by (λ (s : CountedPosition). s.weight) (counted_positions m words pass P H) < 2 ^ 40
 counted_light m words pass P H low few =
     let upto : number_of_positions m words ≤ sum_by letter_count words = positions_within m words low in

@@ -12,15 +12,17 @@ use Rattle.std.proofs.lemmas.List.Sums.{sum_by-cons, sum_by-append}
 use Rattle.pg_types.specs.declared.marks.Mark.{Mark}
 use Rattle.pg_types.specs.declared.marks.Totals.{Totals}
 use Rattle.pg_types.specs.declared.marks.Mark.TheVariants.{Nothing, Error, Missed, Found, DontCare}
+use Rattle.pg_translate.specs.Alphabets.{Alphabet}
 use Rattle.pg_dict.specs.Word.{Word}
 use Rattle.pg_translate.specs.Reach.{positions}
 use Rattle.pg_patterns.specs.Values.{Patterns, applies, value_at}
 use Rattle.pg_select.specs.Statuses.{is_odd, status_at, position_weight}
-use Rattle.pg_select.specs.Sums.{weight_of, marks_in, totals}
-use Rattle.pg_select.specs.Inside.SumSteps.{is_found, is_error, is_missed}
+use Rattle.pg_select.specs.Sums.{weight_of, totals}
+use Rattle.pg_select.specs.Inside.SumSteps.{marks_in, is_found, is_error, is_missed}
 use Rattle.pg_select.specs.Windows.{Hopeless, window, fits, is_covered}
 use Rattle.pg_select.specs.declared.pass.Pass.{Pass}
-use Rattle.pg_select.specs.CountedPositions.{Minima, CountedPosition, Candidate, counts_as, counted_at, counted_positions_at, counted_positions, same_signs, with_window, candidates, with_sums}
+use Rattle.pg_select.specs.CountedPositions.{Candidate, counts_as, counted_at}
+use Rattle.pg_select.specs.Inside.words.PositionLists.{CountedPosition, counted_positions_at, counted_positions, same_signs, with_window, candidates, with_sums}
 use Rattle.pg_select.specs.Inside.words.WordCounts.{counted_positions_in}
 use Rattle.pg_select.proofs.LawsCounts.{cmp, same_window, counted_as, is_counted_window, candidates_are_counted, windows_sorted}
 use Rattle.pg_select.specs.Inside.laws.Steps.{IsUpTo, candidate_at, is_candidate, patterns_after_pass, good_raised, bad_raised, FindsMore, PreventsMore}
@@ -281,7 +283,7 @@ odd_by level v true false is =
     let highest : max level v ≡ level = omega arith in
     ap is_odd highest
 
-module _ (m : Minima) (words : List Word) (pass : Pass) (P : Patterns) (H : Hopeless) (raised : Candidate → Bool) (w : Word) (p : ℕ) where
+module _ (m : Alphabet) (words : List Word) (pass : Pass) (P : Patterns) (H : Hopeless) (raised : Candidate → Bool) (w : Word) (p : ℕ) where
   abbrev is_raised : Bool
   is_raised = is_candidate raised (counted_positions m words pass P H) (window w.signs p pass.len pass.dot)
 
@@ -384,7 +386,7 @@ module _ (m : Minima) (words : List Word) (pass : Pass) (P : Patterns) (H : Hope
       omega (arith, mark, is, stays_is kind, moved_is kind, parted kind (position_weight w p) rises is_above counts_before)
 
 -- what balances at each position balances in sum
-module _ (m : Minima) (P P' : Patterns) (test : Mark → Bool) (part : CountedPosition → ℕ) (f g : Word → ℕ → List CountedPosition)
+module _ (m : Alphabet) (P P' : Patterns) (test : Mark → Bool) (part : CountedPosition → ℕ) (f g : Word → ℕ → List CountedPosition)
     (each : (w : Word) (p : ℕ) → weight_in test (status_at P' w p) (position_weight w p) + sum_by part (f w p) ≡ weight_in test (status_at P w p) (position_weight w p) + sum_by part (g w p)) where
   abbrev weighed : Mark × ℕ → ℕ
   weighed e = cond (test e.0) e.1 0
@@ -427,7 +429,7 @@ flat_none : {X Y : Type 0} (f : X → List Y) → ((x : X) → f x ≡ []) → (
 flat_none f none [] = refl
 flat_none f none (x ∷ xs) = (λ i. none x i ++ flat_none f none xs i)
 
-none_above : (m : Minima) (words : List Word) (pass : Pass) (P : Patterns) → IsUpTo pass.level P → above_positions m words pass P ≡ []
+none_above : (m : Alphabet) (words : List Word) (pass : Pass) (P : Patterns) → IsUpTo pass.level P → above_positions m words pass P ≡ []
 none_above m words pass P upto = flat_none (above_in m pass P) (λ w. flat_none (above_at pass P w) (λ p. here w p) (positions m.left m.right (length w.signs))) words
   where
     not_above : (v : ℕ) → v ≤ pass.level → nat_lt pass.level v ≡ false
@@ -443,7 +445,7 @@ none_above m words pass P upto = flat_none (above_in m pass P) (λ w. flat_none 
         (not_above (value_at P w.signs p) (best_up_to pass.level (applies w.signs p) P upto))
         ∙ none_at w p (fits w.signs p pass.len pass.dot) (counts_as pass.level (status_at P w p))
 
-module _ (m : Minima) (words : List Word) (pass : Pass) (P : Patterns) (H : Hopeless) (raised : Candidate → Bool) where
+module _ (m : Alphabet) (words : List Word) (pass : Pass) (P : Patterns) (H : Hopeless) (raised : Candidate → Bool) where
   abbrev weighs : (Bool → Bool) → CountedPosition → ℕ
   weighs kind = raised_weight raised (counted_positions m words pass P H) (λ (s : CountedPosition). kind s.good)
 

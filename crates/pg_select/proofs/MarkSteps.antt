@@ -7,13 +7,13 @@ use Rattle.pg_types.specs.declared.limits.TheConstants.{WEIGHT_MAX}
 use Rattle.pg_types.specs.declared.marks.Mark.{Mark}
 use Rattle.pg_types.specs.declared.marks.Mark.TheVariants.{Nothing, Error, Missed, Found, DontCare}
 use Rattle.pg_types.specs.declared.marks.Totals.{Totals}
+use Rattle.pg_translate.specs.Alphabets.{Alphabet}
 use Rattle.pg_dict.specs.Word.{Word}
 use Rattle.pg_dict.specs.Inside.SoundWords.{IsWord}
 use Rattle.pg_patterns.specs.Values.{Patterns, value_at}
 use Rattle.pg_select.specs.Statuses.{status, status_at, position_weight}
-use Rattle.pg_select.specs.Sums.{weight_of, totals_of, marks_in}
-use Rattle.pg_select.specs.Inside.SumSteps.{is_found, is_error, is_missed, with_mark, with_marks, sum_of}
-use Rattle.pg_select.specs.CountedPositions.{Minima}
+use Rattle.pg_select.specs.Sums.{weight_of, totals_of}
+use Rattle.pg_select.specs.Inside.SumSteps.{marks_in, is_found, is_error, is_missed, with_mark, with_marks, sum_of}
 use Rattle.pg_select.proofs.Reaches.{range_step}
 
 abbrev totals_with : ℕ → ℕ → ℕ → Totals
@@ -93,6 +93,6 @@ marks_done_by t whole value w p end past left =
     sym (marks_none t) ∙ subst (λ n. with_marks t (map mark (range_with_len p n)) ≡ whole) none left
 
 -- a word that was added, and then the rest
-pub marks_word : (t n whole : Totals) (m : Minima) (P : Patterns) (w : Word) (ws : List Word) → n ≡ with_marks t (marks_in m P w)
+pub marks_word : (t n whole : Totals) (m : Alphabet) (P : Patterns) (w : Word) (ws : List Word) → n ≡ with_marks t (marks_in m P w)
     → with_marks t (flat_map (marks_in m P) (w ∷ ws)) ≡ whole → with_marks n (flat_map (marks_in m P) ws) ≡ whole
 marks_word t n whole m P w ws is left = ap (λ (x : Totals). with_marks x (flat_map (marks_in m P) ws)) is ∙ sym (marks_append t (marks_in m P w) (flat_map (marks_in m P) ws)) ∙ left

@@ -1,4 +1,5 @@
--- The status of a position.
+-- The status of a position. Position p of a word is the place behind its first p signs, the edge
+-- before its letters among them, and dot d of a string the place behind its first d signs.
 use Rattle.std.specs.Prelude.{ℕ, ◌%◌, ◌==◌, Bool, false, true, if◌then◌else◌, slice_index, slice_index_or}
 use Rattle.pg_types.specs.declared.marks.Mark.{Mark}
 use Rattle.pg_types.specs.declared.marks.Mark.TheVariants.{Nothing, Error, Missed, Found, DontCare}

@@ -4,20 +4,16 @@ use Rattle.std.specs.List.{flat_map}
 use Rattle.pg_types.specs.declared.marks.Mark.{Mark}
 use Rattle.pg_types.specs.declared.marks.Mark.TheVariants.{Error, Missed, Found}
 use Rattle.pg_types.specs.declared.marks.Totals.{Totals}
+use Rattle.pg_translate.specs.Alphabets.{Alphabet}
 use Rattle.pg_dict.specs.Word.{Word}
 use Rattle.pg_translate.specs.Reach.{positions}
 use Rattle.pg_patterns.specs.Values.{Patterns}
 use Rattle.pg_select.specs.Statuses.{status_at, position_weight}
-use Rattle.pg_select.specs.CountedPositions.{Minima}
 
 -- the status and the weight of each position in reach of a word whose positions have these statuses
-abbrev pub marks_by : Minima → (ℕ → Mark) → Word → List (Mark × ℕ)
-marks_by m status w = map (λ p. (status p, position_weight w p))
-    (positions m.left m.right (length w.signs))
-
--- the status and the weight of each position in reach, by the patterns
-abbrev pub marks_in : Minima → Patterns → Word → List (Mark × ℕ)
-marks_in m P w = marks_by m (status_at P w) w
+abbrev pub marks_by : Alphabet → (ℕ → Mark) → Word → List (Mark × ℕ)
+marks_by T status w = map (λ p. (status p, position_weight w p))
+    (positions T.left T.right (length w.signs))
 
 -- the weights of the positions whose status passes a test
 abbrev pub weight_of : (Mark → Bool) → List (Mark × ℕ) → ℕ
@@ -31,6 +27,6 @@ totals_of marks = record {
   missed = weight_of (λ m. elim m [ Missed ↦ true | other ↦ false ]) marks;
 }
 
--- the totals of all words
-abbrev pub totals : Minima → List Word → Patterns → Totals
-totals m words P = totals_of (flat_map (marks_in m P) words)
+-- the totals of all words, by the patterns
+abbrev pub totals : Alphabet → List Word → Patterns → Totals
+totals T W P = totals_of (flat_map (λ w. marks_by T (status_at P w) w) W)

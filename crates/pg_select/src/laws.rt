@@ -1,5 +1,5 @@
 //! Laws of the definitions of this crate. A call does nothing; its contract is the law.
-ghost use Rattle.pg_select.specs.Inside.laws.Laws.{CandidatesInOrder, CandidatesAreCounted, CountsAreTally, PositionsAreFew, CandidatesAreFew, TotalsAreSmall, CountedAreLight, SumsAreParts, CandidatesAreLow, ChosenGetLevel, OthersStay, NoneFalls, RaisesWhereItApplies, GivenUpKeepsValues, CoversWhereRaised, HopelessCovers, GivenUpCovers, LaterAtOnce, LaterStill, LaterRaised, LaterHopeless, StatusBack, CountedBack, CountsNothingLater, CountedShorter, CountsNothingLonger, LaterAfterPass, CountsNothingWhenCovered, CountsNothingAtEnd};
+ghost use Rattle.pg_select.specs.Inside.laws.Laws.{CandidatesInOrder, CandidatesAreCounted, CountsAreTally, CandidatesAreListed, PositionsAreFew, CandidatesAreFew, TotalsAreSmall, CountedAreLight, SumsAreParts, CandidatesAreLow, ChosenGetLevel, OthersStay, NoneFalls, RaisesWhereItApplies, GivenUpKeepsValues, CoversWhereRaised, HopelessCovers, GivenUpCovers, LaterAtOnce, LaterStill, LaterRaised, LaterHopeless, StatusBack, CountedBack, CountsNothingLater, CountedShorter, CountsNothingLonger, LaterAfterPass, CountsNothingWhenCovered, CountsNothingAtEnd};
 
 /// The candidates of a pass are the windows that it counts. They stand strictly in the order of
 /// signs, so each once.
@@ -11,7 +11,8 @@ pub fn candidates_in_order()
 /// Counting what a pass counts, one position after the other, gives its candidates with their sums
 /// of good and bad weights.
 pub fn counts_give_sums()
-    ensures { CountsAreTally }
+    ensures counts { CountsAreTally }
+    ensures candidates { CandidatesAreListed }
 {}
 
 /// The words of a dictionary have no more positions in reach than letters. A pass has no more

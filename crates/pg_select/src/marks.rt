@@ -5,7 +5,6 @@ ghost use Rattle.pg_types.specs.declared.limits.TheConstants.{WORD_LETTERS_MAX};
 ghost use Rattle.pg_translate.specs.Reach.{positions as positions_of};
 ghost use Rattle.pg_dict.specs.Inside.SoundWords.{IsWord, letter_count};
 ghost use Rattle.pg_dict.specs.Inside.LentWords.{lent_word};
-ghost use Rattle.pg_select.specs.CountedPositions.{minima_of};
 ghost use Rattle.pg_select.specs.Statuses.{status as status_of, status_with};
 ghost use Rattle.pg_select.specs.Sums.{marks_by};
 ghost use Rattle.pg_select.specs.Inside.SumSteps.{with_mark, with_marks, sum_of, HasRoomFor, TookRoomFor};
@@ -90,7 +89,7 @@ pub fn add_marks(table: &Table, w: &WordRef<'_>, found: &WordState, sums: Totals
     ensures took { TookRoomFor sums result (letter_count (lent_word w.now)) }
     ensures value { (value : ℕ → ℕ) → ((p : ℕ) → p < length w.now.signs.now
         → slice_index found.now.values p ≡ value p)
-        → result ≡ with_marks sums (marks_by (minima_of table.now)
+        → result ≡ with_marks sums (marks_by table.now
         (λ p. status_with (lent_word w.now) p (value p)) (lent_word w.now)) }
 {
     let Some((first, end)) = positions(table, w) else {

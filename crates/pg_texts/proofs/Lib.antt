@@ -1,6 +1,7 @@
 pub mod Joins
 pub mod Layouts
 mod LevelParts
+pub mod CellsScans
 pub mod TraceTexts
 pub mod Ranges
 mod TextRows

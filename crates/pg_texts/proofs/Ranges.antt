@@ -1,8 +1,8 @@
 -- Lists that are made position by position.
-use Rattle.std.proofs.Common.{◌≡◌, ℕ, ◌+◌, ◌<◌, ◌≤◌, List, [], ◌∷◌, ◌++◌, length, map, take, drop, get_or, append_assoc, add-one, add-zero, refl, ap, ◌∙◌, arith, suc, zero}
+use Rattle.std.proofs.Common.{◌≡◌, ℕ, ◌+◌, ◌<◌, ◌≤◌, List, [], ◌∷◌, ◌++◌, length, map, take, drop, get_or, add-one, refl, ap, ◌∙◌, arith, suc, zero}
 use Rattle.std.specs.List.{flat_map, range_with_len, AllByRecursion}
 use Rattle.std.proofs.Math.Seq.{drop-cons}
-use Rattle.std.proofs.lemmas.List.{append-nil, map-append}
+use Rattle.std.proofs.lemmas.List.{map-append}
 
 -- two functions that agree at each position of a range
 pub same_over_range : {A : Type 0} (f g : ℕ → List A) (a n : ℕ) → ((p : ℕ) → a ≤ p → p < a + n → f p ≡ g p) → flat_map f (range_with_len a n) ≡ flat_map g (range_with_len a n)
@@ -41,14 +41,3 @@ each_over_range P f a (suc n) each = each_append P (f a) (flat_map f (range_with
 pub map_pieces : {X A B : Type 0} (g : A → B) (f : X → List A) (xs : List X) → map g (flat_map f xs) ≡ flat_map (λ x. map g (f x)) xs
 map_pieces g f [] = refl
 map_pieces g f (x ∷ xs) = map-append g (f x) (flat_map f xs) ∙ ap (λ r. map g (f x) ++ r) (map_pieces g f xs)
-
-regrouped : (l m front end next rest : List ℕ) → front ++ end ≡ next ++ rest → ((l ++ m) ++ front) ++ end ≡ l ++ ((m ++ next) ++ rest)
-regrouped l m front end next rest same = simp append_assoc (ap (λ r. l ++ (m ++ r)) same)
-
--- letters with what stands behind each, and letters with what stands before each
-pub shifted : (L M N : ℕ → List ℕ) → ((p : ℕ) → N p ≡ L (p + 1)) → (a n : ℕ) → flat_map (λ p. L p ++ M p) (range_with_len a n) ++ L (a + n) ≡ L a ++ flat_map (λ p. M p ++ N p) (range_with_len a n)
-shifted L M N next a zero = rw (add-zero, append-nil) refl
-shifted L M N next a (suc n) =
-    let rest : flat_map (λ p. L p ++ M p) (range_with_len (a + 1) n) ++ L (a + 1 + n) ≡ L (a + 1) ++ flat_map (λ p. M p ++ N p) (range_with_len (a + 1) n) = shifted L M N next (a + 1) n in
-    let place : a + suc n ≡ a + 1 + n = omega arith in
-    regrouped (L a) (M a) (flat_map (λ p. L p ++ M p) (range_with_len (a + 1) n)) (L (a + suc n)) (N a) (flat_map (λ p. M p ++ N p) (range_with_len (a + 1) n)) (rw (place, next a) rest)

@@ -8,7 +8,7 @@ use Rattle.pg_translate.specs.Alphabets.{Alphabet}
 use Rattle.pg_dict.specs.Word.{Word}
 use Rattle.pg_patterns.specs.Values.{Patterns}
 use Rattle.pg_patterns.specs.Texts.{pattern_text}
-use Rattle.pg_driver.specs.Traces.{Source, trace, final_patterns}
+use Rattle.pg_driver.specs.Traces.{trace, final_patterns}
 use Rattle.pg_texts.specs.ReportTexts.{report_text}
 use Rattle.pg_texts.specs.PattmpTexts.{pattmp_text}
 use Rattle.pg_texts.specs.CellsTexts.{cells_text}
@@ -21,9 +21,6 @@ letters_abc = record { left = 1; right = 1; marks = codes ".-*?"; spellings = (2
 abbrev word : List ℕ → List Bool → Word
 word signs hyphens = record { signs = signs; hyphens = hyphens; weights = map (λ _. 1) signs; cares = map (λ _. true) signs; weight = 1 }
 
-abbrev source : List Word → Source
-source words = record { minima = record { left = 1; right = 1 }; words = words }
-
 abbrev level : ℕ → ℕ → ℕ → ℕ → ℕ → LevelParams
 level from to good bad threshold = record { pat_start = from; pat_finish = to; good_wt = good; bad_wt = bad; thresh = threshold }
 
@@ -32,13 +29,13 @@ one_level l = record { start = 1; finish = 1; levels = l ∷ [] }
 
 -- the report, the patterns, the list and the cells file of a run
 abbrev report : List Word → Parameters → Patterns → List ℕ
-report words parameters S = report_text (source words) parameters S (trace (source words) parameters S)
+report words parameters S = report_text letters_abc words parameters S (trace letters_abc words parameters S)
 
 abbrev patterns : List Word → Parameters → Patterns → Patterns
-patterns words parameters S = final_patterns S (trace (source words) parameters S)
+patterns words parameters S = final_patterns S (trace letters_abc words parameters S)
 
 abbrev cells : List Word → Parameters → Patterns → List ℕ
-cells words parameters S = cells_text 4 S (trace (source words) parameters S)
+cells words parameters S = cells_text 4 S (trace letters_abc words parameters S)
 
 -- the words ab-c and ab-a
 abbrev two_words : List Word

@@ -1,26 +1,33 @@
 -- The texts of what a run tells are those of its trace.
-use Rattle.std.proofs.Common.{◌≡◌, ℕ, ◌+◌, ◌-◌, Bool, true, false, cond, List, [], ◌∷◌, ◌++◌, map, filter, fold, codes, decimal, refl, ap, ◌∙◌, append_assoc}
-use Rattle.pg_translate.specs.Gaps.{last_else}
+use Rattle.std.proofs.Common.{◌≡◌, ℕ, ◌+◌, ◌-◌, Bool, true, false, cond, List, [], ◌∷◌, ◌++◌, map, filter, fold, codes, decimal, refl, sym, ap, ◌∙◌, append_assoc}
+use Rattle.pg_translate.specs.Inside.items.GapItems.{last_else}
+use Rattle.pg_dict.specs.Word.{Word}
+use Rattle.pg_translate.specs.Alphabets.{Alphabet}
+use Rattle.pg_select.specs.Sums.{totals as totals_by}
 use Rattle.std.specs.List.{All, enumerate_from, flat_map, range_with_len}
 use Rattle.std.proofs.lemmas.List.Elements.{All-append, All-cons, All-filter, All-head, All-map, All-nil, All-tail}
 use Rattle.std.proofs.lemmas.List.Folds.{flat_map-map}
 use Rattle.pg_types.specs.declared.marks.Layout.{Layout}
 use Rattle.pg_types.specs.declared.parameters.LevelParams.{LevelParams}
 use Rattle.pg_types.specs.Parameters.{Parameters}
-use Rattle.pg_types.specs.Placement.{Families, entered_families, taken_count, top}
+use Rattle.pg_types.specs.Placement.{Families, entered_families, top}
+use Rattle.pg_types.specs.Inside.PlacementSteps.{taken_count}
 use Rattle.pg_patterns.specs.Values.{Patterns, largest}
 use Rattle.pg_select.specs.declared.pass.Pass.{Pass}
-use Rattle.pg_driver.specs.Accounts.{has_candidate, totals_by}
+use Rattle.pg_driver.specs.Inside.level.Passes.{level_traces, pass_traces}
+use Rattle.pg_driver.specs.Accounts.{has_candidate}
 use Rattle.pg_driver.specs.Dots.{order}
 use Rattle.pg_driver.specs.Inside.records.AccountLines.{PassLine, account, chosen_by, level_line, pass_line, pass_lines}
 use Rattle.pg_driver.specs.Inside.records.CellsAccounts.{cells_account, layout_of, level_layout, levels_with_families, pass_layouts, passes_with_families}
-use Rattle.pg_driver.specs.Layouts.{strings_in, after_level, after_pass}
-use Rattle.pg_driver.specs.Traces.{Knowledge, LevelTrace, PassTrace, Source, Trace, at_start, final_patterns, known_after, level_trace, level_traces, pass_trace, pass_traces, passes_of, patterns_after, trace}
+use Rattle.pg_driver.specs.Inside.Layouts.{strings_in, after_level, after_pass}
+use Rattle.pg_driver.specs.Traces.{Knowledge, LevelTrace, PassTrace, Trace, at_start, final_patterns, known_after, level_trace, pass_trace, passes_of, patterns_after, trace}
 use Rattle.pg_texts.specs.Fronts.{level_front, pass_front}
-use Rattle.pg_texts.specs.CellsTexts.{cells_text, layout_text, levels_cells_text, passes_cells_text, used_text}
+use Rattle.pg_texts.specs.CellsTexts.{cells_text, layout_text, used_text}
+use Rattle.pg_texts.specs.Inside.CellsSteps.{levels_cells_text, passes_cells_text}
 use Rattle.pg_texts.specs.ReportTexts.{ending_text, level_text, pass_text, report_text, totals_text, warning_text}
 use Rattle.pg_texts.specs.Inside.CellsLines.{account_cells_text, level_cells_line, level_cells_text, pass_cells_text}
 use Rattle.pg_texts.specs.Inside.ReportLines.{account_text, level_line_text, level_lines_text, pass_line_text}
+use Rattle.pg_texts.proofs.CellsScans.{text_scanned}
 use Rattle.pg_texts.proofs.LevelParts.{Rises, by_levels}
 
 -- the levels have the numbers from n on, and their passes have their numbers
@@ -37,20 +44,20 @@ passes_numbered n (len ∷ lens) =
     (All-map (λ (q : Pass). q.level ≡ n) (λ dot. record { level = n; len = len; dot = dot }) (order len) (λ k d less. refl))
     (passes_numbered n lens)
 
-made_numbered : (source : Source) (params : LevelParams) (n : ℕ) (known : Knowledge) (qs : List Pass) → All (λ (q : Pass). q.level ≡ n) qs
-    → All (λ (p : PassTrace). p.pass.level ≡ n) (pass_traces source params known qs)
-made_numbered source params n known [] are = All-nil (λ (p : PassTrace). p.pass.level ≡ n)
-made_numbered source params n known (q ∷ qs) are =
-    let p : PassTrace = pass_trace source params known q in
-    All-cons (λ (p : PassTrace). p.pass.level ≡ n) p (pass_traces source params (known_after p) qs) (All-head (λ (q : Pass). q.level ≡ n) q qs are)
-    (made_numbered source params n (known_after p) qs (All-tail (λ (q : Pass). q.level ≡ n) q qs are))
+made_numbered : (T : Alphabet) (W : List Word) (params : LevelParams) (n : ℕ) (known : Knowledge) (qs : List Pass) → All (λ (q : Pass). q.level ≡ n) qs
+    → All (λ (p : PassTrace). p.pass.level ≡ n) (pass_traces T W params known qs)
+made_numbered T W params n known [] are = All-nil (λ (p : PassTrace). p.pass.level ≡ n)
+made_numbered T W params n known (q ∷ qs) are =
+    let p : PassTrace = pass_trace T W params known q in
+    All-cons (λ (p : PassTrace). p.pass.level ≡ n) p (pass_traces T W params (known_after p) qs) (All-head (λ (q : Pass). q.level ≡ n) q qs are)
+    (made_numbered T W params n (known_after p) qs (All-tail (λ (q : Pass). q.level ≡ n) q qs are))
 
-levels_numbered : (source : Source) (n : ℕ) (P : Patterns) (levels : List LevelParams) → AreNumbered n (level_traces source P (enumerate_from n levels))
-levels_numbered source n P [] = tt
-levels_numbered source n P (params ∷ levels) = (
+levels_numbered : (T : Alphabet) (W : List Word) (n : ℕ) (P : Patterns) (levels : List LevelParams) → AreNumbered n (level_traces T W P (enumerate_from n levels))
+levels_numbered T W n P [] = tt
+levels_numbered T W n P (params ∷ levels) = (
   refl,
-  made_numbered source params n (at_start P) (passes_of n params) (passes_numbered n (range_with_len params.pat_start (params.pat_finish + 1 - params.pat_start))),
-  levels_numbered source (n + 1) (patterns_after (level_trace source P (n, params))) levels,
+  made_numbered T W params n (at_start P) (passes_of n params) (passes_numbered n (range_with_len params.pat_start (params.pat_finish + 1 - params.pat_start))),
+  levels_numbered T W (n + 1) (patterns_after (level_trace T W P (n, params))) levels,
 )
 
 -- texts that are joined behind others
@@ -64,48 +71,48 @@ of_three : (a x b c d y : List ℕ) → a ≡ x → d ≡ y → a ++ (b ++ c) ++
 of_three a x b c d y first last = (λ i. first i ++ (b ++ c) ++ last i) ∙ simp append_assoc
 
 -- the line of a pass
-pass_same : (source : Source) (p : PassTrace) → pass_line_text (pass_line source p) ≡ pass_text source p
-pass_same source p =
-    let line : PassLine = pass_line source p in
+pass_same : (T : Alphabet) (W : List Word) (p : PassTrace) → pass_line_text (pass_line T W p) ≡ pass_text T W p
+pass_same T W p =
+    let line : PassLine = pass_line T W p in
     of_twelve (pass_front p.pass ++ totals_text line.before ++ codes "; ")
     (decimal line.candidates) (codes " candidates, ") (decimal line.chosen) (codes " chosen, ") (decimal line.hopeless) (codes " hopeless, ") (decimal
     (line.candidates - line.chosen - line.hopeless)) (codes " left; ")
     (decimal line.good) (codes " good, ") (decimal line.bad) (codes " bad\n")
 
-passes_same : (source : Source) (ps : List PassTrace) → flat_map pass_line_text (map (pass_line source) ps) ≡ flat_map (pass_text source) ps
-passes_same source [] = refl
-passes_same source (p ∷ ps) = λ i. pass_same source p i ++ passes_same source ps i
+passes_same : (T : Alphabet) (W : List Word) (ps : List PassTrace) → flat_map pass_line_text (map (pass_line T W) ps) ≡ flat_map (pass_text T W) ps
+passes_same T W [] = refl
+passes_same T W (p ∷ ps) = λ i. pass_same T W p i ++ passes_same T W ps i
 
 -- the report
-report_rises : (source : Source) (n : ℕ) (run : Trace) → AreNumbered n run → Rises (pass_lines source) (λ l. l.number) (λ x. x.pass.level) n run
-report_rises source n [] are = tt
-report_rises source n (l ∷ ls) are = (
+report_rises : (T : Alphabet) (W : List Word) (n : ℕ) (run : Trace) → AreNumbered n run → Rises (pass_lines T W) (λ l. l.number) (λ x. x.pass.level) n run
+report_rises T W n [] are = tt
+report_rises T W n (l ∷ ls) are = (
   are.0,
-  All-map (λ (x : PassLine). x.pass.level ≡ n) (pass_line source) (filter has_candidate l.passes) (All-filter has_candidate (λ (p : PassTrace). p.pass.level ≡ n) l.passes are.1),
-  report_rises source (n + 1) ls are.2,
+  All-map (λ (x : PassLine). x.pass.level ≡ n) (pass_line T W) (filter has_candidate l.passes) (All-filter has_candidate (λ (p : PassTrace). p.pass.level ≡ n) l.passes are.1),
+  report_rises T W (n + 1) ls are.2,
 )
 
-level_same : (source : Source) (l : LevelTrace) → flat_map pass_line_text (pass_lines source l) ++ level_line_text (level_line source l) ≡ level_text source l
-level_same source l =
-    ap (λ t. t ++ level_line_text (level_line source l)) (passes_same source (filter has_candidate l.passes))
-    ∙ of_five (flat_map (pass_text source) (filter has_candidate l.passes)) (level_front l.number) (decimal (chosen_by l.passes)) (codes " chosen, ")
-    (totals_text (totals_by source (patterns_after l))) (codes "\n")
+level_same : (T : Alphabet) (W : List Word) (l : LevelTrace) → flat_map pass_line_text (pass_lines T W l) ++ level_line_text (level_line T W l) ≡ level_text T W l
+level_same T W l =
+    ap (λ t. t ++ level_line_text (level_line T W l)) (passes_same T W (filter has_candidate l.passes))
+    ∙ of_five (flat_map (pass_text T W) (filter has_candidate l.passes)) (level_front l.number) (decimal (chosen_by l.passes)) (codes " chosen, ")
+    (totals_text (totals_by T W (patterns_after l))) (codes "\n")
 
-levels_same : (source : Source) (run : Trace) → flat_map (λ l. flat_map pass_line_text (pass_lines source l) ++ level_line_text (level_line source l)) run ≡ flat_map (level_text source) run
-levels_same source [] = refl
-levels_same source (l ∷ ls) = λ i. level_same source l i ++ levels_same source ls i
+levels_same : (T : Alphabet) (W : List Word) (run : Trace) → flat_map (λ l. flat_map pass_line_text (pass_lines T W l) ++ level_line_text (level_line T W l)) run ≡ flat_map (level_text T W) run
+levels_same T W [] = refl
+levels_same T W (l ∷ ls) = λ i. level_same T W l i ++ levels_same T W ls i
 
-pub report_same : (source : Source) (parameters : Parameters) (S : Patterns) → account_text (largest S) parameters (account source S (trace source parameters S))
-    ≡ report_text source parameters S (trace source parameters S)
-report_same source parameters S =
-    let run : Trace = trace source parameters S in
-    let lines = flat_map (pass_lines source) run in
-    let levels : flat_map (level_lines_text lines) (map (level_line source) run) ≡ flat_map (level_text source) run =
-    flat_map-map (level_lines_text lines) (level_line source) run
-    ∙ by_levels (pass_lines source) (λ l. l.number) (λ x. x.pass.level) (λ l xs. flat_map pass_line_text xs ++ level_line_text (level_line source l)) parameters.start run
-    (report_rises source parameters.start run (levels_numbered source parameters.start S parameters.levels))
-    ∙ levels_same source run in
-    ap (λ t. warning_text (largest S) parameters ++ t ++ ending_text (totals_by source (final_patterns S run))) levels
+pub report_same : (T : Alphabet) (W : List Word) (parameters : Parameters) (S : Patterns) → account_text (largest S) parameters (account T W S (trace T W parameters S))
+    ≡ report_text T W parameters S (trace T W parameters S)
+report_same T W parameters S =
+    let run : Trace = trace T W parameters S in
+    let lines = flat_map (pass_lines T W) run in
+    let levels : flat_map (level_lines_text lines) (map (level_line T W) run) ≡ flat_map (level_text T W) run =
+    flat_map-map (level_lines_text lines) (level_line T W) run
+    ∙ by_levels (pass_lines T W) (λ l. l.number) (λ x. x.pass.level) (λ l xs. flat_map pass_line_text xs ++ level_line_text (level_line T W l)) parameters.start run
+    (report_rises T W parameters.start run (levels_numbered T W parameters.start S parameters.levels))
+    ∙ levels_same T W run in
+    ap (λ t. warning_text (largest S) parameters ++ t ++ ending_text (totals_by T W (final_patterns S run))) levels
 
 -- the cells file
 with_numbered : (signs n : ℕ) (fs : Families) (ps : List PassTrace) → All (λ (p : PassTrace). p.pass.level ≡ n) ps
@@ -148,20 +155,20 @@ cells_levels signs fs (l ∷ ls) =
     let after : Families = after_level signs fs l in
     of_three _ _ (level_front l.number) (layout_text after (patterns_after l)) _ _ (cells_passes signs fs l.passes) (cells_levels signs after ls)
 
-pub cells_same : (source : Source) (parameters : Parameters) (signs : ℕ) (S : Patterns)
-    → account_cells_text (cells_account signs (entered_families signs (strings_in S)) S (trace source parameters S)) ≡ cells_text signs S (trace source parameters S)
-cells_same source parameters signs S =
+pub cells_same : (T : Alphabet) (W : List Word) (parameters : Parameters) (signs : ℕ) (S : Patterns)
+    → account_cells_text (cells_account signs (entered_families signs (strings_in S)) S (trace T W parameters S)) ≡ cells_text signs S (trace T W parameters S)
+cells_same T W parameters signs S =
     let fs : Families = entered_families signs (strings_in S) in
-    let run : Trace = trace source parameters S in
+    let run : Trace = trace T W parameters S in
     let part : LevelTrace × Families → List (Pass × ℕ × ℕ) = λ e. pass_layouts signs e.1 e.0.passes in
     let layouts : LevelTrace × Families → ℕ × Layout = λ e. level_layout signs e.1 e.0 in
     let told = levels_with_families signs fs run in
     let levels : flat_map (level_cells_text (flat_map part told)) (map layouts told) ≡ levels_cells_text signs fs run =
     flat_map-map (level_cells_text (flat_map part told)) layouts told
     ∙ by_levels part (λ e. e.0.number) (λ (x : Pass × ℕ × ℕ). x.0.level) (λ e xs. flat_map pass_cells_text xs ++ level_cells_line (layouts e)) parameters.start told
-    (cells_rise signs parameters.start fs run (levels_numbered source parameters.start S parameters.levels))
+    (cells_rise signs parameters.start fs run (levels_numbered T W parameters.start S parameters.levels))
     ∙ cells_levels signs fs run in
-    ap (λ t. codes "start: " ++ layout_text fs S ++ t) levels
+    ap (λ t. codes "start: " ++ layout_text fs S ++ t) levels ∙ sym (text_scanned signs S run)
 
 -- the layout after the last level
 pub last_same : (signs : ℕ) (fs : Families) (S : Patterns) (run : Trace)

@@ -11,11 +11,10 @@ use Rattle.std.proofs.lemmas.List.Folds.{list_all-append}
 use Rattle.pg_types.specs.declared.limits.TheConstants.{WEIGHT_MAX}
 use Rattle.pg_translate.specs.Alphabets.{Alphabet}
 use Rattle.pg_translate.specs.Tokens.{Token, Digit, Weight}
-use Rattle.pg_types.specs.Parameters.{with_digit}
+use Rattle.pg_types.specs.Numbers.{with_digit}
 use Rattle.pg_translate.specs.Inside.items.Items.{IsItem, decimal_value}
 use Rattle.pg_translate.specs.declared.items.Place.TheVariants.{Dictionary}
 use Rattle.pg_dict.specs.Inside.WrittenWords.{number_token, weight_tokens}
-use Rattle.pg_texts.specs.PattmpTexts.{number_text}
 
 -- digits that write a number
 record Writes (n : ℕ) (text : List ℕ) : Type 0 where
@@ -36,6 +35,10 @@ writes_more n ds high front = record {
 
 decimal_writes : (n : ℕ) → n < 2 ^ 64 → Writes n (decimal n)
 decimal_writes n small = decimal_by_steps Writes writes_one writes_more n small
+
+-- a weight: a digit, or a greater number in braces
+abbrev pub number_text : ℕ → List ℕ
+number_text n = if nat_lt n 10 then decimal n else codes "{" ++ decimal n ++ codes "}"
 
 -- the item of a weight that differs from another
 abbrev pub weight_items : ℕ → ℕ → List (Token × List ℕ)

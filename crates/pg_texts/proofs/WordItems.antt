@@ -18,8 +18,8 @@ use Rattle.pg_dict.specs.Word.{Word}
 use Rattle.pg_dict.specs.Inside.SoundWords.{IsWord}
 use Rattle.pg_dict.specs.Inside.WrittenWords.{MarkedLetter, mark_tokens, weight_tokens, number_token, letters_tokens, written_letters, between_letters, letters_with, word_tokens, letters_among}
 use Rattle.pg_select.specs.Statuses.{position_weight}
-use Rattle.pg_texts.specs.PattmpTexts.{mark_text, weight_text, letter_text, position_text, word_text}
-use Rattle.pg_texts.proofs.Ranges.{same_over_range, part_of, each_append, each_over_range, map_pieces, shifted}
+use Rattle.pg_texts.specs.PattmpTexts.{mark_text, weight_text, position_text, word_text}
+use Rattle.pg_texts.proofs.Ranges.{same_over_range, part_of, each_append, each_over_range, map_pieces}
 use Rattle.pg_texts.proofs.WeightItems.{weight_items, weight_items_tokens, weight_items_each}
 
 -- an item of a dictionary line, with its text
@@ -120,11 +120,7 @@ mark_items_joined t Missed = refl
 mark_items_joined t Found = refl
 mark_items_joined t DontCare = refl
 
--- the mark and the weight of a position
-abbrev mark_and_weight : Alphabet → (ℕ → Mark) → Word → ℕ → List ℕ
-mark_and_weight t marks w p = mark_text t (marks p) ++ weight_text w.weight (position_weight w p)
-
-position_items_joined : (t : Alphabet) (marks : ℕ → Mark) (w : Word) (p : ℕ) → text_of_items (position_items t marks w p) ≡ mark_and_weight t marks w p ++ spelling_of t (slice_index w.signs p)
+position_items_joined : (t : Alphabet) (marks : ℕ → Mark) (w : Word) (p : ℕ) → text_of_items (position_items t marks w p) ≡ position_text t marks w p
 position_items_joined t marks w p =
     joined_append (mark_items t (marks p)) (weight_items w.weight (position_weight w p) ++ letter_item t (slice_index w.signs p) ∷ [])
     ∙ rw (
@@ -135,32 +131,17 @@ position_items_joined t marks w p =
     )
     (sym (append_assoc (mark_text t (marks p)) (weight_text w.weight (position_weight w p)) (spelling_of t (slice_index w.signs p))))
 
--- the letters behind the first, each behind the mark and the weight of the position before it
-abbrev letters_behind : Alphabet → (ℕ → Mark) → Word → List ℕ
-letters_behind t marks w = flat_map (λ p. mark_and_weight t marks w p ++ spelling_of t (slice_index w.signs p)) (inner_positions w)
-
-word_letters : (t : Alphabet) (marks : ℕ → Mark) (w : Word) → 3 ≤ length w.signs → flat_map (position_text t marks w) (inner_positions w)
-    ++ letter_text t w (length w.signs - 1) ≡ spelling_of t (slice_index w.signs 1) ++ letters_behind t marks w
-word_letters t marks w long =
-    let last : length w.signs - 1 ≡ 2 + (length w.signs - 3) = omega arith in
-    let front : flat_map (position_text t marks w) (inner_positions w) ≡ flat_map (λ p. letter_text t w p ++ mark_and_weight t marks w p) (inner_positions w) =
-    same_over_range (position_text t marks w) (λ p. letter_text t w p ++ mark_and_weight t marks w p) 2 (length w.signs - 3)
-    (λ p low high. append_assoc (letter_text t w p) (mark_text t (marks p)) (weight_text w.weight (position_weight w p))) in
-    let moved = shifted (letter_text t w) (mark_and_weight t marks w) (λ p. spelling_of t (slice_index w.signs p)) (λ p. ap (λ q. spelling_of t (slice_index w.signs q)) (omega arith)) 2
-    (length w.signs - 3) in
-    rw (front, last) moved
-
 pub word_items_joined : (t : Alphabet) (before : ℕ) (marks : ℕ → Mark) (w : Word) → 3 ≤ length w.signs → text_of_items (word_items t before marks w)
     ++ codes "\n" ≡ weight_text before w.weight ++ word_text t marks w
 word_items_joined t before marks w long =
-    let letters : text_of_items (flat_map (position_items t marks w) (inner_positions w)) ≡ letters_behind t marks w =
+    let letters : text_of_items (flat_map (position_items t marks w) (inner_positions w)) ≡ flat_map (position_text t marks w) (inner_positions w) =
     joined_pieces (position_items t marks w) (inner_positions w)
-    ∙ same_over_range (λ p. text_of_items (position_items t marks w p)) (λ p. mark_and_weight t marks w p ++ spelling_of t (slice_index w.signs p)) 2
+    ∙ same_over_range (λ p. text_of_items (position_items t marks w p)) (position_text t marks w) 2
     (length w.signs - 3) (λ p low high. position_items_joined t marks w p) in
-    let whole : text_of_items (word_items t before marks w) ≡ weight_text before w.weight ++ (spelling_of t (slice_index w.signs 1) ++ letters_behind t marks w) =
+    let whole : text_of_items (word_items t before marks w) ≡ weight_text before w.weight ++ (spelling_of t (slice_index w.signs 1) ++ flat_map (position_text t marks w) (inner_positions w)) =
     joined_append (weight_items before w.weight) (letter_item t (slice_index w.signs 1) ∷ flat_map (position_items t marks w) (inner_positions w))
     ∙ rw (weight_items_joined before w.weight, letters) refl in
-    rw (whole, word_letters t marks w long) (append_assoc (weight_text before w.weight) (spelling_of t (slice_index w.signs 1) ++ letters_behind t marks w) (codes "\n"))
+    rw whole (append_assoc (weight_text before w.weight) (spelling_of t (slice_index w.signs 1) ++ flat_map (position_text t marks w) (inner_positions w)) (codes "\n"))
 
 -- each is an item
 mark_items_each : (t : Alphabet) (mark : Mark) → AllByRecursion (IsDictionaryItem t) (mark_items t mark)

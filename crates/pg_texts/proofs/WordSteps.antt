@@ -6,7 +6,7 @@ use Rattle.std.proofs.lemmas.Bool.Decides.{nat_tests}
 use Rattle.std.proofs.lemmas.Option.{get_or_from_slice_get, slice_get_within}
 use Rattle.pg_types.specs.declared.marks.Mark.{Mark}
 use Rattle.pg_types.specs.Inside.Signs.{SignsWithin}
-use Rattle.pg_translate.specs.Alphabets.{Alphabet}
+use Rattle.pg_translate.specs.Alphabets.{Alphabet, spelling_of}
 use Rattle.pg_translate.specs.Reach.{reach, positions}
 use Rattle.pg_dict.specs.Word.{Word}
 use Rattle.pg_dict.specs.Inside.SoundWords.{IsWord, SignsAtMost}
@@ -14,7 +14,7 @@ use Rattle.pg_patterns.specs.Values.{Patterns, value_at}
 use Rattle.pg_select.specs.Statuses.{status}
 use Rattle.pg_texts.proofs.Ranges.{same_over_range}
 use Rattle.pg_texts.specs.Inside.FoundStatuses.{status_found}
-use Rattle.pg_texts.specs.PattmpTexts.{is_taking_part, weight_text, position_text, word_text, statuses, lines_behind, letter_text}
+use Rattle.pg_texts.specs.PattmpTexts.{is_taking_part, weight_text, position_text, word_text, statuses, lines_behind}
 use Rattle.pg_texts.specs.Inside.ReadBack.{words_taking_part}
 
 -- one position more of a range
@@ -68,7 +68,7 @@ same_marks t marks others w same long =
     let positions : flat_map (position_text t marks w) (range_with_len 2 (length w.signs - 3)) ≡ flat_map (position_text t others w) (range_with_len 2 (length w.signs - 3)) =
     same_over_range (position_text t marks w) (position_text t others w) 2 (length w.signs - 3)
     (λ p low high. ap (λ mark. position_text t (λ _. mark) w p) (same p (omega arith))) in
-    ap (λ x. x ++ letter_text t w (length w.signs - 1) ++ codes "\n") positions
+    ap (λ x. spelling_of t (slice_index w.signs 1) ++ x ++ codes "\n") positions
 
 joined_line : (text front line rest all behind new later : List ℕ) → later ≡ rest → behind ≡ text ++ front → new ≡ behind ++ line → text ++ (front ++ line ++ rest) ≡ all → new ++ later ≡ all
 joined_line text front line rest all behind new later same front_is line_is whole = rw (same, line_is, front_is) (simp append_assoc (simp append_assoc at whole))

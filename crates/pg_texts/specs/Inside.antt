@@ -2,5 +2,6 @@
 pub mod CellsRecords
 pub mod ReportLines
 pub mod CellsLines
+pub mod CellsSteps
 pub mod FoundStatuses
 pub mod ReadBack

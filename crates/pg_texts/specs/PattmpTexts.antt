@@ -21,27 +21,20 @@ mark_text t Missed = slice_index t.marks 1 ∷ []
 mark_text t Found = slice_index t.marks 2 ∷ []
 mark_text t DontCare = slice_index t.marks 3 ∷ []
 
--- a weight: a digit, or a greater number in braces
-abbrev pub number_text : ℕ → List ℕ
-number_text n = if nat_lt n 10 then decimal n else codes "{" ++ decimal n ++ codes "}"
-
--- a weight where it differs from another
+-- a weight where it differs from another: a digit, or a greater number in braces
 abbrev pub weight_text : ℕ → ℕ → List ℕ
-weight_text other weight = if weight == other then [] else number_text weight
+weight_text other weight = if weight == other then [] else (if nat_lt weight 10 then decimal weight
+    else codes "{" ++ decimal weight ++ codes "}")
 
--- the letter before a position
-abbrev pub letter_text : Alphabet → Word → ℕ → List ℕ
-letter_text t w p = spelling_of t (slice_index w.signs (p - 1))
-
--- a position between two letters: the letter before it, its mark, and its weight where it differs
+-- a position between two letters: its mark, its weight where it differs, and the letter behind it
 abbrev pub position_text : Alphabet → (ℕ → Mark) → Word → ℕ → List ℕ
-position_text t marks w p = letter_text t w p ++ mark_text t (marks p)
-    ++ weight_text w.weight (position_weight w p)
+position_text t marks w p = mark_text t (marks p) ++ weight_text w.weight (position_weight w p)
+    ++ spelling_of t (slice_index w.signs p)
 
--- a word of n letters with these marks: the positions 2 to n, and then the last letter
+-- a word of n letters with these marks: its first letter, and then the positions 2 to n
 abbrev pub word_text : Alphabet → (ℕ → Mark) → Word → List ℕ
-word_text t marks w = flat_map (position_text t marks w) (range_with_len 2 (length w.signs - 3))
-    ++ letter_text t w (length w.signs - 1) ++ codes "\n"
+word_text t marks w = spelling_of t (slice_index w.signs 1)
+    ++ flat_map (position_text t marks w) (range_with_len 2 (length w.signs - 3)) ++ codes "\n"
 
 -- the status of a position: in reach by the value of the patterns, out of reach as by the value 0
 abbrev pub statuses : Alphabet → Patterns → Word → ℕ → Mark

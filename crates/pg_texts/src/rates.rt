@@ -2,7 +2,8 @@
 ghost use Rattle.std.specs.Prelude.{◌≡◌, ◌++◌, ◌+◌, ◌*◌, ◌/◌, ◌<◌, OnOk};
 ghost use Rattle.pg_types.specs.Inside.Limits.{sums_limit};
 ghost use Rattle.pg_driver.specs.Inside.records.SoundRecords.{IsSmall};
-ghost use Rattle.pg_texts.specs.ReportTexts.{totals_text, hundredths, rate_text, ending_text};
+ghost use Rattle.pg_texts.specs.ReportTexts.{totals_text, rate_text, ending_text};
+ghost use Rattle.pg_texts.specs.Inside.ReportLines.{hundredths};
 
 use pg_types::{Totals, push_number};
 use std::alloc::AllocError;

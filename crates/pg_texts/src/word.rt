@@ -55,8 +55,8 @@ fn status_at(word: WordRef<'_>, found: &WordState, reach: (usize, usize), p: usi
     status(word.hyphens[p], word.cares[p], value)
 }
 
-/// Appends the letter before position `p`, the mark of the position, and its weight where it is not
-/// the word's.
+/// Appends the mark of position `p`, its weight where it is not the word's, and the letter behind
+/// it.
 fn push_position(
     text: &mut Vec<u8>,
     table: &Table,
@@ -64,20 +64,19 @@ fn push_position(
     p: usize,
     mark: Mark,
 ) -> Result<(), AllocError>
-    requires low { 2 ≤ p }
-    requires high { p < length word.signs.now }
+    requires within { p < length word.signs.now }
     requires word { IsWord (lent_word word) }
     requires known { All (λ s. s ≤ letters_of table.now + 1) word.signs.now }
     ensures { OnOk result (text.new.items
         ≡ text.old.items ++ pattmp.position_text table.now (λ _. mark) (lent_word word.entry) p) }
 {
-    text.extend_from_slice(table.spelling(word.signs[p - 1]))?;
     push_mark(text, table, mark)?;
-    push_weight(text, word.weight, word.weights[p])
+    push_weight(text, word.weight, word.weights[p])?;
+    text.extend_from_slice(table.spelling(word.signs[p]))
 }
 
-/// Appends the line of a word: its letters, and behind each but the last the mark of its position,
-/// and the weight of that where it is not the word's.
+/// Appends the line of a word: its first letter, and at each position between two letters its mark,
+/// its weight where it is not the word's, and the letter behind it.
 pub fn push_word(
     text: &mut Vec<u8>,
     table: &Table,
@@ -91,9 +90,9 @@ pub fn push_word(
         (status_found found.now.values reach (lent_word word.entry)) (lent_word word.entry)) }
 {
     let last = word.signs.len() - 1;
+    text.extend_from_slice(table.spelling(word.signs[1]))?;
     'positions: for p in 2..last {
         push_position(text, table, word, p, status_at(word, found, reach, p))?;
     }
-    text.extend_from_slice(table.spelling(word.signs[last - 1]))?;
     text.extend_from_slice(b"\n")
 }

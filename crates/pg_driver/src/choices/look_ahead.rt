@@ -23,6 +23,7 @@ pub struct SeenCandidate {
 
 /// Looks at the candidates with these numbers. Their windows stand far apart among the signs. Where
 /// they are read together, the processor fetches them at the same time.
+#[inline(never)]
 fn look_at(
     signs: &[Sign],
     counts: &StartCounts,
@@ -51,6 +52,7 @@ fn look_at(
 
 /// Fills `seen` from index `k` of the order on, unless it has that candidate. `from` is the index
 /// of the first in `seen`; the answer is that index afterwards.
+#[inline(always)]
 pub fn look_ahead(
     signs: &[Sign],
     counts: &StartCounts,

@@ -10,7 +10,7 @@ ghost use Rattle.pg_types.specs.Inside.counting.NumberedWindows.{Windows};
 ghost use Rattle.pg_dict.specs.Inside.SoundWords.{IsWord};
 ghost use Rattle.pg_dict.specs.Inside.LentWords.{lent_word};
 ghost use Rattle.pg_patterns.specs.Values.{Patterns};
-ghost use Rattle.pg_select.specs.CountedPositions.{counts_as as counts_as_of, minima_of};
+ghost use Rattle.pg_select.specs.CountedPositions.{counts_as as counts_as_of};
 ghost use Rattle.pg_select.specs.Inside.laws.AboveLevel.{counts_above};
 ghost use Rattle.pg_select.specs.Inside.words.Positions.{HasValues};
 ghost use Rattle.pg_select.specs.Statuses.{status};
@@ -88,7 +88,7 @@ pub fn list_above(
     requires { IsWord (lent_word w.now) }
     ensures { (P : Patterns) → HasValues P w.now.signs.now found.now.values
         → OnOk result (above.new.items
-        ≡ above.old.items ++ listed_in (minima_of table.now)
+        ≡ above.old.items ++ listed_in table.now
         (counts_above level P) word (lent_word w.now)) }
 {
     let Some((first, end)) = positions(table, w) else {

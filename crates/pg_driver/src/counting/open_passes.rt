@@ -28,6 +28,7 @@ pub fn is_good(level: u8, hyphen: bool) -> bool
 
 /// Counts the window at a sign at which the dot of the pass is open, where it fits in the sign's
 /// word. No word is looked up.
+#[inline(always)]
 fn count_sign(dictionary: &Dictionary, pass: Pass, sign: usize, counts: &mut StartCounts)
     requires ranges { IsPass pass }
     requires words { All IsWord dictionary.now }
@@ -89,6 +90,7 @@ pub fn count_open(dictionary: &Dictionary, pass: Pass, dots: &OpenDots, counts: 
 
 /// What became of the window at a sign at which the dot of the pass is open; `None` where it does
 /// not fit.
+#[inline(always)]
 fn fate_of(
     dictionary: &Dictionary,
     pass: Pass,

@@ -9,12 +9,11 @@ ghost use Rattle.pg_translate.specs.Reach.{positions as positions_of};
 ghost use Rattle.pg_dict.specs.Word.{Word};
 ghost use Rattle.pg_dict.specs.Inside.SoundWords.{IsWord, SignsAtMost, letter_count};
 ghost use Rattle.pg_dict.specs.Inside.LentWords.{lent_word};
-ghost use Rattle.pg_select.specs.CountedPositions.{counts_as as counts_as_of, minima_of};
-ghost use Rattle.pg_select.specs.Sums.{totals as totals_of_words, marks_in};
-ghost use Rattle.pg_select.specs.Inside.SumSteps.{with_marks, HasRoomFor, TookRoomFor};
+ghost use Rattle.pg_select.specs.CountedPositions.{counts_as as counts_as_of};
+ghost use Rattle.pg_select.specs.Sums.{totals as totals_of_words};
+ghost use Rattle.pg_select.specs.Inside.SumSteps.{marks_in, with_marks, HasRoomFor, TookRoomFor};
 ghost use Rattle.pg_driver.specs.Inside.counting.Counting.{IsBounded};
 ghost use Rattle.pg_driver.specs.Inside.counting.OpenSigns.{has_care as has_care_of, is_open_first, sign_count, start_of, takes_part};
-ghost use Rattle.pg_driver.specs.Traces.{source_of};
 
 use crate::counting::positions::{counts_as, has_care};
 use pg_dict::{Dictionary, WordRef};
@@ -85,16 +84,16 @@ fn open_word<E: Engine>(
     ensures size { position_count opened.new.dots ≡ position_count opened.old.dots }
     ensures none { opened.new.dots.reached ≡ 0 }
     ensures closed { (d s : ℕ) → s < position_count opened.old.dots → is_closed opened.new.dots d s
-        ≡ (not (is_open_first (minima_of table.now) level
+        ≡ (not (is_open_first table.now level
         (E.meaning engine.now).patterns (lent_word w.now)
         (s - before)) && is_closed opened.old.dots d s) }
     ensures set_size { positions_room opened.new.never ≡ position_count opened.old.dots }
     ensures never { (s : ℕ) → s < position_count opened.old.dots → is_among opened.new.never s
-        ≡ (not (takes_part (minima_of table.now) (lent_word w.now) (s - before))
+        ≡ (not (takes_part table.now (lent_word w.now) (s - before))
         && is_among opened.old.never s) }
     ensures totals { opened.new.totals
         ≡ with_marks opened.old.totals
-        (marks_in (minima_of table.now) (E.meaning engine.now).patterns
+        (marks_in table.now (E.meaning engine.now).patterns
         (lent_word w.now)) }
     ensures took { TookRoomFor opened.old.totals opened.new.totals
         (letter_count (lent_word w.now)) }
@@ -128,16 +127,16 @@ pub fn open_level<E: Engine>(
     ensures closed { IfOk result
         (λ opened. (d n p : ℕ) (w : Word) → slice_get dictionary.now n ≡ Some w
         → p < length w.signs → is_closed opened.dots d (start_of dictionary.now n + p)
-        ≡ not (is_open_first (minima_of table.now) level (E.meaning engine.now).patterns w p)) }
+        ≡ not (is_open_first table.now level (E.meaning engine.now).patterns w p)) }
     ensures set_size { IfOk result
         (λ opened. positions_room opened.never ≡ position_count opened.dots) }
     ensures never { IfOk result (λ opened. (n p : ℕ) (w : Word)
         → slice_get dictionary.now n ≡ Some w → p < length w.signs
         → is_among opened.never (start_of dictionary.now n + p)
-        ≡ not (takes_part (minima_of table.now) w p)) }
+        ≡ not (takes_part table.now w p)) }
     ensures totals { IfOk result (λ opened. opened.totals
-        ≡ totals_of_words (minima_of table.now) dictionary.now (E.meaning engine.now).patterns) }
-    ensures bounded { OnOk result (IsBounded (source_of table.now dictionary.now)) }
+        ≡ totals_of_words table.now dictionary.now (E.meaning engine.now).patterns) }
+    ensures bounded { OnOk result (IsBounded table.now dictionary.now) }
 {
     let count = dictionary.len();
     let signs = dictionary.all_signs();

@@ -6,7 +6,6 @@ ghost use Rattle.pg_driver.specs.Inside.counting.Counting.{AreNumbersFor};
 ghost use Rattle.pg_driver.specs.Inside.level.PassWindows.{HaveNumbers, is_counted_at};
 ghost use Rattle.pg_driver.specs.Inside.level.States.{HasBegun};
 ghost use Rattle.pg_driver.specs.Inside.records.RunAccounts.{known_of};
-ghost use Rattle.pg_driver.specs.Traces.{source_of};
 ghost use Rattle.pg_select.specs.Statuses.{is_odd};
 ghost use Rattle.pg_driver.specs.Inside.counting.LevelCounting.{CanMove, DidCount, IsAfterWords};
 ghost use Rattle.pg_driver.specs.Inside.counting.WordLevels.{IsWordsAt};
@@ -65,14 +64,14 @@ impl WordLevel {
         requires starts { AreNumbersFor dictionary.now pass.len (λ d s. true) counts.old.numbers }
         requires fresh { counts_in (all_signs dictionary.now) counts.old ≡ [] }
         requires none { numbers.old.items ≡ [] }
-        requires ready { IsWordsAt (source_of table.now dictionary.now) pass.level
+        requires ready { IsWordsAt table.now dictionary.now pass.level
             (known_of (E.meaning engine.now))
             self.old }
         ensures kept { counts.new.numbers ≡ counts.old.numbers }
         ensures counting { AreCounting (all_signs dictionary.now) counts.new }
-        ensures did { IfOk result (DidCount (source_of table.now dictionary.now) pass
+        ensures did { IfOk result (DidCount table.now dictionary.now pass
             (E.meaning engine.now) (counts_in (all_signs dictionary.now) counts.new)) }
-        ensures ready { OnOk result (IsWordsAt (source_of table.now dictionary.now) pass.level
+        ensures ready { OnOk result (IsWordsAt table.now dictionary.now pass.level
             (known_of (E.meaning engine.now)) self.new) }
         ensures counted { OnOk result (self.new.is_counted ≡ true) }
         ensures numbers { OnOk result

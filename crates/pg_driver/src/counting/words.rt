@@ -5,12 +5,13 @@ ghost use Rattle.pg_types.specs.Inside.Signs.{SignsWithin};
 ghost use Rattle.pg_translate.specs.Reach.{positions as positions_of};
 ghost use Rattle.pg_dict.specs.Inside.SoundWords.{IsWord, letter_count};
 ghost use Rattle.pg_dict.specs.Inside.LentWords.{lent_word};
-ghost use Rattle.pg_select.specs.CountedPositions.{counted_at, counted_positions_at, counted_positions, counts_as as counts_as_of, minima_of};
+ghost use Rattle.pg_select.specs.CountedPositions.{counted_at, counts_as as counts_as_of};
+ghost use Rattle.pg_select.specs.Inside.words.PositionLists.{counted_positions_at, counted_positions};
 ghost use Rattle.pg_select.specs.Inside.words.WordCounts.{counted_positions_in};
 ghost use Rattle.pg_select.specs.Inside.laws.AboveLevel.{counts_above};
 ghost use Rattle.pg_select.specs.Statuses.{status_at, position_weight};
-ghost use Rattle.pg_select.specs.Sums.{marks_in, totals as totals_of_words};
-ghost use Rattle.pg_select.specs.Inside.SumSteps.{with_mark, with_marks, HasRoomFor, TookRoomFor};
+ghost use Rattle.pg_select.specs.Sums.{totals as totals_of_words};
+ghost use Rattle.pg_select.specs.Inside.SumSteps.{marks_in, with_mark, with_marks, HasRoomFor, TookRoomFor};
 ghost use Rattle.pg_select.specs.Windows.{fits as fits_in, window as window_of_word};
 ghost use Rattle.pg_driver.specs.Inside.counting.Counting.{AreNumbersFor, HasRoom, IsBounded, IsRead, TookRoom};
 ghost use Rattle.pg_driver.specs.Inside.counting.OpenSigns.{IsWordAt};
@@ -22,7 +23,6 @@ ghost use Rattle.pg_driver.specs.Inside.level.PassWindows.{GetsNumber, HaveNumbe
 ghost use Rattle.pg_driver.specs.Inside.records.SoundRecords.{IsSmall};
 ghost use Rattle.pg_driver.specs.Inside.level.States.{HasBegun, IsPass};
 ghost use Rattle.pg_driver.specs.Inside.counting.WordLevels.{listing};
-ghost use Rattle.pg_driver.specs.Traces.{source_of};
 
 use crate::counting::above_positions::{is_above, list_above};
 use crate::counting::positions::{counts_as, fits};
@@ -186,17 +186,17 @@ fn count_word<E: Engine>(
     ensures counting { AreCounting (all_signs dictionary.now) counts.new }
     ensures ok { OnOk result (counts_in (all_signs dictionary.now) counts.new
         ≡ fold with_position (counts_in (all_signs dictionary.now) counts.old)
-        (counted_positions_in (minima_of table.now) pass (E.meaning engine.now).patterns
+        (counted_positions_in table.now pass (E.meaning engine.now).patterns
         (E.meaning engine.now).hopeless (lent_word w.now))) }
     ensures sums { OnOk result (sums.new
         ≡ with_marks sums.old
-        (marks_in (minima_of table.now) (E.meaning engine.now).patterns (lent_word w.now))) }
+        (marks_in table.now (E.meaning engine.now).patterns (lent_word w.now))) }
     ensures above { OnOk result
-        (above.new.items ≡ above.old.items ++ listed_in (minima_of table.now)
+        (above.new.items ≡ above.old.items ++ listed_in table.now
         (listing lists pass.level (E.meaning engine.now).patterns) word (lent_word w.now)) }
     ensures numbers { OnOk result (NotesNumbers pass word (lent_word w.now)
         (E.meaning engine.now) (windows_in (all_signs dictionary.now) counts.new)
-        (listed_in (minima_of table.now)
+        (listed_in table.now
         (counts_above pass.level (E.meaning engine.now).patterns) word (lent_word w.now))
         numbers.old.items numbers.new.items) }
     ensures took { OnOk result (TookRoom (counts_in (all_signs dictionary.now) counts.old)
@@ -243,19 +243,19 @@ pub fn count_words<E: Engine>(
     ensures counting { AreCounting (all_signs dictionary.now) counts.new }
     ensures ok { OnOk result (counts_in (all_signs dictionary.now) counts.new
         ≡ fold with_position []
-        (counted_positions (minima_of table.now) dictionary.now pass
+        (counted_positions table.now dictionary.now pass
         (E.meaning engine.now).patterns (E.meaning engine.now).hopeless)) }
     ensures totals { IfOk result (λ sums. sums
-        ≡ totals_of_words (minima_of table.now) dictionary.now (E.meaning engine.now).patterns) }
+        ≡ totals_of_words table.now dictionary.now (E.meaning engine.now).patterns) }
     ensures small { IfOk result IsSmall }
-    ensures bounded { OnOk result (IsBounded (source_of table.now dictionary.now)) }
+    ensures bounded { OnOk result (IsBounded table.now dictionary.now) }
     ensures above { OnOk result
-        (above.new.items ≡ above.old.items ++ listed_from (minima_of table.now)
+        (above.new.items ≡ above.old.items ++ listed_from table.now
         (listing lists pass.level (E.meaning engine.now).patterns) 0 dictionary.now) }
     ensures numbers { OnOk result (HaveNumbers pass
         (uncovered_at pass (E.meaning engine.now).patterns
         (E.meaning engine.now).hopeless) dictionary.now
-        (windows_in (all_signs dictionary.now) counts.new) (listed_from (minima_of table.now)
+        (windows_in (all_signs dictionary.now) counts.new) (listed_from table.now
         (counts_above pass.level
         (E.meaning engine.now).patterns) 0 dictionary.now) numbers.new.items) }
     ensures room { OnOk result (HasRoom (counts_in (all_signs dictionary.now) counts.new) 0) }

@@ -4,7 +4,15 @@ use Rattle.pg_types.specs.declared.limits.TheConstants.{WEIGHT_MAX, FILE_MAX}
 use Rattle.pg_types.specs.declared.marks.Mark.{Mark}
 use Rattle.pg_types.specs.declared.marks.Mark.TheVariants.{Error, Missed, Found}
 use Rattle.pg_types.specs.declared.marks.Totals.{Totals}
-use Rattle.pg_select.specs.Sums.{weight_of}
+use Rattle.pg_translate.specs.Alphabets.{Alphabet}
+use Rattle.pg_dict.specs.Word.{Word}
+use Rattle.pg_patterns.specs.Values.{Patterns}
+use Rattle.pg_select.specs.Statuses.{status_at}
+use Rattle.pg_select.specs.Sums.{marks_by, weight_of}
+
+-- the status and the weight of each position in reach of a word, by the patterns
+abbrev pub marks_in : Alphabet → Patterns → Word → List (Mark × ℕ)
+marks_in T P w = marks_by T (status_at P w) w
 
 -- whether the mark is Found: a hyphen at which the patterns break
 abbrev pub is_found : Mark → Bool

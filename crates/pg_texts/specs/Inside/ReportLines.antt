@@ -1,5 +1,5 @@
 -- The text of the report by the lines that a run tells.
-use Rattle.std.specs.Prelude.{ℕ, ◌-◌, ◌==◌, List, ◌++◌, filter, codes, decimal}
+use Rattle.std.specs.Prelude.{ℕ, ◌-◌, ◌/◌, ◌%◌, ◌==◌, List, ◌++◌, filter, codes, decimal}
 use Rattle.std.specs.List.{flat_map}
 use Rattle.pg_types.specs.Parameters.{Parameters}
 use Rattle.pg_driver.specs.Inside.records.AccountLines.{PassLine, LevelLine, Account}
@@ -21,6 +21,10 @@ counts_text p =
 -- `A good, E bad`, the sums over the chosen, and the line's end
 abbrev pub sums_text : PassLine → List ℕ
 sums_text p = decimal p.good ++ codes " good, " ++ decimal p.bad ++ codes " bad\n"
+
+-- hundredths as a whole part, a point and two digits
+abbrev pub hundredths : ℕ → List ℕ
+hundredths n = decimal (n / 100) ++ codes "." ++ decimal (n / 10 % 10) ++ decimal (n % 10)
 
 -- the line of a pass
 abbrev pub pass_line_text : PassLine → List ℕ

@@ -14,7 +14,7 @@ returns-then-ne-clause-answer c =
     ≡ true = rw (← c.first_line.ensures.line, ← c.first_line-in-lines.ensures.line) (sym c.ne.ensures ∙ c.if-ne.true) in
     sym c.lines.invariant.answer
     ∙ other_first c.lines.line c.lines.rest.now c.lines.due.now (sym c.is_empty.ensures ∙ c.lines-test.true) other
-    ∙ ap (λ r. Some (record { line = c.lines.line; found = r })) (sym c.first_line.ensures.line)
+    ∙ ap (λ r. Some (c.lines.line, r)) (sym c.first_line.ensures.line)
 
 pub returns-then-ne-clause-equal : goal.returns-then-ne-clause-equal
 returns-then-ne-clause-equal c = (λ no. cc, λ same. absurd (some_differ _ _ _ (returns-then-ne-clause-answer c) same))

@@ -3,7 +3,6 @@ use Rattle.pg_dict.specs.Inside.SoundWords.{SignsAtMost}
 use Rattle.pg_select.specs.declared.pass.Pass.{Pass}
 use Rattle.pg_driver.specs.Inside.level.Levels.{GoesOn, all_made_by, point}
 use Rattle.pg_driver.specs.Inside.records.RunAccounts.{known_of}
-use Rattle.pg_driver.specs.Traces.{source_of}
 use Rattle.pg_driver.specs.Inside.level.Passes.{known_at_end, passes_of_length}
 use Rattle.pg_driver.proofs.LevelSteps.{all_from, at_whole, none_from, pass_with, passes_from, passes_step, reaches_on}
 use Rattle.pg_driver.specs.Dots.{dot_at}
@@ -12,13 +11,14 @@ use Rattle.pg_driver.proofs.level.run_length.Goals as goal
 pub dots-init : goal.dots-init
 dots-init g c =
     let m0 = g.E.Engine.meaning c.args.engine.now in
-    let source = source_of c.args.table.now c.args.dictionary.now in
+    let T = c.args.table.now in
+    let W = c.args.dictionary.now in
     record {
       reaches = λ start ps at. record {
         done = ps;
         at = at;
-        left = ap (λ (passes : List Pass). ps ++ all_made_by source c.args.params.now m0 passes) (all_from c.args.number c.args.len);
-        known = ap (λ (passes : List Pass). known_at_end (known_of m0) (all_made_by source c.args.params.now m0 passes)) (all_from c.args.number c.args.len);
+        left = ap (λ (passes : List Pass). ps ++ all_made_by T W c.args.params.now m0 passes) (all_from c.args.number c.args.len);
+        known = ap (λ (passes : List Pass). known_at_end (known_of m0) (all_made_by T W c.args.params.now m0 passes)) (all_from c.args.number c.args.len);
       };
       ready = c.requires.ready;
       numbers = record { known = c.requires.known; numbers = λ noted. absurd (let wrong : false ≡ true = noted in cc) };
@@ -41,15 +41,16 @@ dots-preserved g c =
     let number = c.args.number in
     let len = c.args.len in
     let k = c.dots.k in
-    let source = source_of c.args.table.now c.args.dictionary.now in
-    let all = all_made_by source params m0 (passes_of_length number len) in
-    let on : GoesOn source number len (all_made_by source params m (pass_with number len (dot_at len k) ∷ [])) (point m c.dots.records c.dots.skippable)
+    let T = c.args.table.now in
+    let W = c.args.dictionary.now in
+    let all = all_made_by T W params m0 (passes_of_length number len) in
+    let on : GoesOn T W number len (all_made_by T W params m (pass_with number len (dot_at len k) ∷ [])) (point m c.dots.records c.dots.skippable)
     (point n c.run_or_skip.new.records c.run_or_skip.new.skippable) =
-    subst (λ (dot : ℕ). GoesOn source number len (all_made_by source params m (pass_with number len dot ∷ [])) (point m c.dots.records c.dots.skippable)
+    subst (λ (dot : ℕ). GoesOn T W number len (all_made_by T W params m (pass_with number len dot ∷ [])) (point m c.dots.records c.dots.skippable)
     (point n c.run_or_skip.new.records c.run_or_skip.new.skippable)) c.dot_at.ensures.dot c.in_ok-run_or_skip.ensures.ok in
     record {
       reaches = λ start ps at.
-          reaches_on source params number len start m n c.dots.records c.run_or_skip.new.records c.dots.skippable c.run_or_skip.new.skippable
+          reaches_on T W params number len start m n c.dots.records c.run_or_skip.new.records c.dots.skippable c.run_or_skip.new.skippable
           (passes_from number len k (len + 1)) (pass_with number len (dot_at len k) ∷ []) (passes_from number len (k + 1) (len + 1)) (ps ++ all) (known_at_end (known_of m0) all)
           (passes_step number len k (len + 1) c.dots-test.true) on (c.dots.invariant.reaches start ps at);
       ready = c.in_ok-run_or_skip.ensures.ready;
@@ -69,11 +70,12 @@ returns-clause-ok g c = λ start ps at.
     let m0 = g.E.Engine.meaning c.args.engine.now in
     let number = c.args.number in
     let len = c.args.len in
-    let source = source_of c.args.table.now c.args.dictionary.now in
-    let all = all_made_by source c.args.params.now m0 (passes_of_length number len) in
+    let T = c.args.table.now in
+    let W = c.args.dictionary.now in
+    let all = all_made_by T W c.args.params.now m0 (passes_of_length number len) in
     let ends : c.dots.k ≡ len + 1 = omega arith in
     let none : passes_from number len c.dots.k (len + 1) ≡ [] = ap (λ k. passes_from number len k (len + 1)) ends ∙ none_from number len (len + 1) in
-    at_whole source c.args.params.now number len start (g.E.Engine.meaning c.dots.engine) c.dots.records c.dots.skippable (passes_from number len c.dots.k (len + 1))
+    at_whole T W c.args.params.now number len start (g.E.Engine.meaning c.dots.engine) c.dots.records c.dots.skippable (passes_from number len c.dots.k (len + 1))
     (ps ++ all) (known_at_end (known_of m0) all) none (c.dots.invariant.reaches start ps at)
 
 pub returns-clause-counted : goal.returns-clause-counted

@@ -2,7 +2,7 @@ use Rattle.std.proofs.Common.{◌≡◌, ◌+◌, ◌<◌, inl, inr, [], refl, a
 use Rattle.pg_dict.specs.Inside.SoundWords.{SignsAtMost}
 use Rattle.pg_driver.specs.Inside.level.Levels.{LevelStart, all_made_by}
 use Rattle.pg_driver.specs.Inside.records.RunAccounts.{known_of}
-use Rattle.pg_driver.specs.Traces.{passes_of, source_of}
+use Rattle.pg_driver.specs.Traces.{passes_of}
 use Rattle.pg_driver.specs.Inside.level.Passes.{known_at_end, passes_of_length}
 use Rattle.pg_driver.proofs.LevelSteps.{at_level_start, at_next, at_whole, lengths_from, lengths_step, no_lengths, reaches_on}
 use Rattle.pg_driver.proofs.ReadySteps.{has_ended, tells_totals}
@@ -11,11 +11,12 @@ use Rattle.pg_driver.proofs.level.run_lengths.Goals as goal
 pub lengths-init : goal.lengths-init
 lengths-init g c =
     let m0 = g.E.Engine.meaning c.args.engine.now in
-    let source = source_of c.args.table.now c.args.dictionary.now in
+    let T = c.args.table.now in
+    let W = c.args.dictionary.now in
     record {
       reaches = record {
         done = [];
-        at = at_level_start source c.args.number c.args.params.now.pat_start m0 c.args.records.now c.new-skippable.result c.requires.chosen c.new-skippable.ensures.here c.new-skippable.ensures.longer;
+        at = at_level_start T W c.args.number c.args.params.now.pat_start m0 c.args.records.now c.new-skippable.result c.requires.chosen c.new-skippable.ensures.here c.new-skippable.ensures.longer;
         left = refl;
         known = refl;
       };
@@ -39,21 +40,22 @@ lengths-preserved g c =
     let number = c.args.number in
     let len = c.lengths.len in
     let end = params.pat_finish + 1 in
-    let source = source_of c.args.table.now c.args.dictionary.now in
+    let T = c.args.table.now in
+    let W = c.args.dictionary.now in
     let start : LevelStart = record { engine = m0; records = c.args.records.now } in
-    let all = all_made_by source params m0 (passes_of number params) in
-    let reached = reaches_on source params number len start m n c.lengths.records c.run_length.new.records c.lengths.skippable c.run_length.new.skippable
+    let all = all_made_by T W params m0 (passes_of number params) in
+    let reached = reaches_on T W params number len start m n c.lengths.records c.run_length.new.records c.lengths.skippable c.run_length.new.skippable
     (lengths_from number len end) (passes_of_length number len) (lengths_from number (len + 1) end) all (known_at_end (known_of m0) all)
     (lengths_step number len end c.lengths-test.true) c.in_ok-run_length.ensures.ok c.lengths.invariant.reaches in
     record {
       reaches = record {
         done = reached.done;
-        at = at_next source number len start reached.done n c.run_length.new.records c.run_length.new.skippable c.next_length.new.self
+        at = at_next T W number len start reached.done n c.run_length.new.records c.run_length.new.skippable c.next_length.new.self
             c.next_length.ensures.here c.next_length.ensures.longer reached.at;
         left = reached.left;
         known = reached.known;
       };
-      ready = c.in_ok-next_length.ensures.ready source number len (known_of n) c.in_ok-run_length.ensures.ready;
+      ready = c.in_ok-next_length.ensures.ready T W number len (known_of n) c.in_ok-run_length.ensures.ready;
       numbers = c.in_ok-run_length.ensures.known;
       will = inr (c.in_ok-next_length.ensures.counted c.in_ok-run_length.ensures.counted);
       counted = λ _. c.in_ok-next_length.ensures.counted c.in_ok-run_length.ensures.counted;
@@ -70,12 +72,13 @@ returns-clause-state g c =
     let params = c.args.params.now in
     let number = c.args.number in
     let end = params.pat_finish + 1 in
-    let source = source_of c.args.table.now c.args.dictionary.now in
+    let T = c.args.table.now in
+    let W = c.args.dictionary.now in
     let start : LevelStart = record { engine = m0; records = c.args.records.now } in
-    let all = all_made_by source params m0 (passes_of number params) in
+    let all = all_made_by T W params m0 (passes_of number params) in
     let ends : c.lengths.len ≡ end = omega (arith, c.requires.level.start_high) in
     let none : lengths_from number c.lengths.len end ≡ [] = ap (λ len. lengths_from number len end) ends ∙ no_lengths number end in
-    (at_whole source params number c.lengths.len start (g.E.Engine.meaning c.lengths.engine) c.lengths.records c.lengths.skippable (lengths_from number c.lengths.len end) all
+    (at_whole T W params number c.lengths.len start (g.E.Engine.meaning c.lengths.engine) c.lengths.records c.lengths.skippable (lengths_from number c.lengths.len end) all
     (known_at_end (known_of m0) all) none c.lengths.invariant.reaches).0.state
 
 pub returns-clause-records : goal.returns-clause-records
@@ -84,24 +87,25 @@ returns-clause-records g c =
     let params = c.args.params.now in
     let number = c.args.number in
     let end = params.pat_finish + 1 in
-    let source = source_of c.args.table.now c.args.dictionary.now in
+    let T = c.args.table.now in
+    let W = c.args.dictionary.now in
     let start : LevelStart = record { engine = m0; records = c.args.records.now } in
-    let all = all_made_by source params m0 (passes_of number params) in
+    let all = all_made_by T W params m0 (passes_of number params) in
     let ends : c.lengths.len ≡ end = omega (arith, c.requires.level.start_high) in
     let none : lengths_from number c.lengths.len end ≡ [] = ap (λ len. lengths_from number len end) ends ∙ no_lengths number end in
-    (at_whole source params number c.lengths.len start (g.E.Engine.meaning c.lengths.engine) c.lengths.records c.lengths.skippable (lengths_from number c.lengths.len end) all
+    (at_whole T W params number c.lengths.len start (g.E.Engine.meaning c.lengths.engine) c.lengths.records c.lengths.skippable (lengths_from number c.lengths.len end) all
     (known_at_end (known_of m0) all) none c.lengths.invariant.reaches).0.records
 
 pub returns-clause-ready : goal.returns-clause-ready
 returns-clause-ready g c =
     let m = g.E.Engine.meaning c.lengths.engine in
     let some : c.args.params.now.pat_start < c.lengths.len = omega (arith, c.requires.level.start_high) in
-    tells_totals (source_of c.args.table.now c.args.dictionary.now) c.args.number c.lengths.len (known_of m) m.patterns c.lengths.counting refl
+    tells_totals c.args.table.now c.args.dictionary.now c.args.number c.lengths.len (known_of m) m.patterns c.lengths.counting refl
     (c.lengths.invariant.counted some) c.lengths.invariant.ready
 
 pub returns-clause-ended : goal.returns-clause-ended
 returns-clause-ended g c =
-    has_ended (source_of c.args.table.now c.args.dictionary.now) c.args.number c.lengths.len (known_of (g.E.Engine.meaning c.lengths.engine)) c.lengths.counting c.lengths.invariant.ready
+    has_ended c.args.table.now c.args.dictionary.now c.args.number c.lengths.len (known_of (g.E.Engine.meaning c.lengths.engine)) c.lengths.counting c.lengths.invariant.ready
 
 pub run_length-requires-clause-level : goal.run_length-requires-clause-level
 run_length-requires-clause-level g c = c.requires.level

@@ -1,29 +1,28 @@
 use Rattle.std.proofs.Common.{sym, ap, subst, ◌∙◌, arith, refl}
+use Rattle.pg_select.specs.Sums.{totals as totals_by}
 use Rattle.pg_select.specs.Inside.engine.Meanings.{Meaning}
 use Rattle.pg_patterns.specs.Values.{Patterns}
-use Rattle.pg_driver.specs.Accounts.{totals_by}
 use Rattle.pg_driver.specs.Inside.counting.LevelCounting.{HasEnded}
 use Rattle.pg_driver.specs.Inside.records.SoundRecords.{IsSmall, RunRecords}
-use Rattle.pg_driver.specs.Traces.{source_of}
 use Rattle.pg_driver.proofs.RunSteps.{did_level}
 use Rattle.pg_driver.proofs.level.run_level.Goals as goal
 
 pub returns-clause-done : goal.returns-clause-done
 returns-clause-done g c =
     let m0 = g.E.Engine.meaning c.args.engine.now in
-    did_level (source_of c.args.table.now c.args.dictionary.now) c.args.number c.args.params.now m0 (g.E.Engine.meaning c.run_lengths.new.engine)
+    did_level c.args.table.now c.args.dictionary.now c.args.number c.args.params.now m0 (g.E.Engine.meaning c.run_lengths.new.engine)
     (g.E.Engine.meaning c.end_level.new.self) c.args.records.now c.run_lengths.new.records c.end_level-2.new.self c.totals-after.result c.layout.result c.requires.hopeless
     c.in_ok-run_lengths.ensures.state
     c.in_ok-run_lengths.ensures.records
     c.requires.chosen
     c.in_ok-end_level.ensures.ok
-    (c.totals-after.ensures ∙ c.in_ok-run_lengths.ensures.ready.0 ∙ ap (λ (x : Meaning). totals_by (source_of c.args.table.now c.args.dictionary.now) x.patterns) (sym c.in_ok-end_level.ensures.ok))
+    (c.totals-after.ensures ∙ c.in_ok-run_lengths.ensures.ready.0 ∙ ap (λ (x : Meaning). totals_by c.args.table.now c.args.dictionary.now x.patterns) (sym c.in_ok-end_level.ensures.ok))
     c.layout.ensures
     c.in_ok-end_level-2.ensures
 
 pub returns-clause-totals : goal.returns-clause-totals
 returns-clause-totals g c = c.totals-after.ensures ∙ c.in_ok-run_lengths.ensures.ready.0
-    ∙ ap (λ (x : Meaning). totals_by (source_of c.args.table.now c.args.dictionary.now) x.patterns) (sym c.in_ok-end_level.ensures.ok)
+    ∙ ap (λ (x : Meaning). totals_by c.args.table.now c.args.dictionary.now x.patterns) (sym c.in_ok-end_level.ensures.ok)
 
 pub returns-clause-small : goal.returns-clause-small
 returns-clause-small g c = subst IsSmall (sym c.totals-after.ensures) c.in_ok-run_lengths.ensures.ready.1
@@ -73,7 +72,7 @@ begin_level-requires-clause-ended g c = c.requires.ended
 
 pub returns-clause-ended : goal.returns-clause-ended
 returns-clause-ended g c =
-    subst (λ (P : Patterns). HasEnded (source_of c.args.table.now c.args.dictionary.now) c.args.number P c.run_lengths.new.counting)
+    subst (λ (P : Patterns). HasEnded c.args.table.now c.args.dictionary.now c.args.number P c.run_lengths.new.counting)
     (sym (ap (λ (x : Meaning). x.patterns) c.in_ok-end_level.ensures.ok)) c.in_ok-run_lengths.ensures.ended
 
 pub returns-in_err-begin_level-clause-signs : goal.returns-in_err-begin_level-clause-signs

@@ -3,7 +3,6 @@ use Rattle.pg_driver.specs.Inside.counting.LevelCounting.{IsCounted}
 use Rattle.pg_driver.specs.Inside.level.Levels.{is_set, no_flags}
 use Rattle.pg_driver.specs.Inside.records.SoundRecords.{RunRecords}
 use Rattle.pg_driver.proofs.SkipFlags.{none_set}
-use Rattle.pg_driver.specs.Traces.{source_of}
 use Rattle.pg_driver.proofs.LevelSteps.{done_on, skipped_on}
 use Rattle.pg_driver.proofs.StartSteps.{has_size, known_in}
 use Rattle.pg_driver.specs.Inside.records.RunAccounts.{known_of}
@@ -12,14 +11,14 @@ use Rattle.pg_driver.proofs.level.run_or_skip.Goals as goal
 pub returns-then-is_skippable-clause-ok : goal.returns-then-is_skippable-clause-ok
 returns-then-is_skippable-clause-ok g c =
     let pass = c.args.pass in
-    skipped_on (source_of c.args.table.now c.args.dictionary.now) c.args.params.now pass.level pass.len pass.dot
+    skipped_on c.args.table.now c.args.dictionary.now c.args.params.now pass.level pass.len pass.dot
     (g.E.Engine.meaning c.args.engine.now) c.args.records.now c.args.skippable.now c.set.new.self (sym c.is_skippable.ensures ∙ c.if-is_skippable.true) c.set.ensures.here c.set.ensures.longer
 
 pub returns-clause-ok : goal.returns-clause-ok
 returns-clause-ok g c =
     let m = g.E.Engine.meaning c.args.engine.now in
     let pass = c.args.pass in
-    done_on (source_of c.args.table.now c.args.dictionary.now) c.args.params.now pass.level pass.len pass.dot m c.args.records.now c.args.skippable.now c.set-2.new.self
+    done_on c.args.table.now c.args.dictionary.now c.args.params.now pass.level pass.len pass.dot m c.args.records.now c.args.skippable.now c.set-2.new.self
     (g.E.Engine.meaning c.run_pass.new.engine) c.add_pass.new.self c.in_ok-record.record c.left_none.result
     (sym c.is_skippable.ensures ∙ c.if-is_skippable.false)
     c.set-2.ensures.here
@@ -146,7 +145,7 @@ number_once-requires-clause-len g c = (omega (arith, c.requires.ranges.len_low),
 
 pub number_once-requires-clause-size : goal.number_once-requires-clause-size
 number_once-requires-clause-size g c =
-    has_size (source_of c.args.table.now c.args.dictionary.now) c.args.pass.level c.args.pass.len (known_of (g.E.Engine.meaning c.args.engine.now)) c.args.counting.now c.requires.ready
+    has_size c.args.table.now c.args.dictionary.now c.args.pass.level c.args.pass.len (known_of (g.E.Engine.meaning c.args.engine.now)) c.args.counting.now c.requires.ready
 
 pub number_once-requires-clause-numbers : goal.number_once-requires-clause-numbers
 number_once-requires-clause-numbers g c = c.requires.numbers

@@ -2,13 +2,13 @@ use Rattle.std.proofs.Common.{◌≡◌, ℕ, List, [], fold, length, map, sym, 
 use Rattle.pg_types.specs.Inside.Signs.{SignsWithin}
 use Rattle.pg_types.specs.Inside.counting.Counts.{Counts}
 use Rattle.pg_types.specs.Inside.counting.NumberedWindows.{AreInOrder}
+use Rattle.pg_select.specs.Sums.{totals as totals_by}
 use Rattle.pg_dict.specs.Inside.SoundWords.{SignsAtMost}
 use Rattle.pg_dict.specs.Inside.Store.{all_signs}
 use Rattle.pg_select.specs.declared.choice.Choice.{Choice}
 use Rattle.pg_select.specs.Inside.engine.Meanings.{Meaning, with_position}
 use Rattle.pg_starts.specs.declared.start_counts.StartCounts.{StartCounts}
 use Rattle.pg_starts.specs.Inside.StartCountings.{AreCounting, counts_in, windows_in}
-use Rattle.pg_driver.specs.Accounts.{totals_by}
 use Rattle.pg_driver.specs.Inside.choices.Choosing.{HasChosen, candidate_of, no_choices, with_candidates}
 use Rattle.pg_driver.specs.Inside.choices.LookAhead.{FitCursors}
 use Rattle.pg_driver.specs.Inside.counting.Counting.{HasRoom}
@@ -16,7 +16,7 @@ use Rattle.pg_driver.specs.Inside.counting.LevelCounting.{AreListed, AreNumbersI
 use Rattle.pg_driver.specs.Inside.level.PassWindows.{AreFates, IsCandidate}
 use Rattle.pg_driver.specs.Inside.level.States.{State}
 use Rattle.pg_driver.specs.Inside.records.RunAccounts.{known_of}
-use Rattle.pg_driver.specs.Traces.{Knowledge, source_of}
+use Rattle.pg_driver.specs.Traces.{Knowledge}
 use Rattle.pg_driver.proofs.OpenSigns.{signs_few}
 use Rattle.pg_driver.proofs.PassSteps.{counted_as, did_pass, numbers_are, pass_state, seen_in}
 use Rattle.pg_driver.proofs.ReadySteps.{are_of, can_go_on, counted_after, placed, ready_after}
@@ -32,7 +32,7 @@ count-requires-clause-begun g c = record {
 
 pub count-requires-clause-ready : goal.count-requires-clause-ready
 count-requires-clause-ready g c =
-    subst (λ (k : Knowledge). IsReady (source_of c.args.table.now c.args.dictionary.now) c.args.pass.level c.args.pass.len k c.args.counting.now)
+    subst (λ (k : Knowledge). IsReady c.args.table.now c.args.dictionary.now c.args.pass.level c.args.pass.len k c.args.counting.now)
     (sym (ap known_of c.begin_pass.ensures)) c.requires.ready
 
 pub count-requires-clause-numbers : goal.count-requires-clause-numbers
@@ -134,13 +134,14 @@ after_choices-requires-clause-placed g c =
     let words = c.args.dictionary.now in
     let pass = c.args.pass in
     let params = c.args.params.now in
-    let source = source_of c.args.table.now words in
+    let T = c.args.table.now in
+    let W = words in
     let k = c.count.new.windows.counts in
     let cs : Counts = counts_in (all_signs words) k in
     let counted : cs ≡ fold with_position [] (seen_in c.args.table.now words pass m) = counted_as c.args.table.now words pass m m1 cs c.begin_pass.ensures c.in_ok-before.ensures.did.counts in
-    let ready : IsReady source pass.level pass.len (known_of m) c.count.new.self =
-    subst (λ (x : Knowledge). IsReady source pass.level pass.len x c.count.new.self) (ap known_of c.begin_pass.ensures) c.in_ok-before.ensures.ready in
-    placed source pass.level pass.len (known_of m) c.count.new.self c.in_ok-before.ensures.counted ready
+    let ready : IsReady T W pass.level pass.len (known_of m) c.count.new.self =
+    subst (λ (x : Knowledge). IsReady T W pass.level pass.len x c.count.new.self) (ap known_of c.begin_pass.ensures) c.in_ok-before.ensures.ready in
+    placed T W pass.level pass.len (known_of m) c.count.new.self c.in_ok-before.ensures.counted ready
 
 pub after_choices-requires-clause-totals : goal.after_choices-requires-clause-totals
 after_choices-requires-clause-totals g c =
@@ -149,12 +150,13 @@ after_choices-requires-clause-totals g c =
     let words = c.args.dictionary.now in
     let pass = c.args.pass in
     let params = c.args.params.now in
-    let source = source_of c.args.table.now words in
+    let T = c.args.table.now in
+    let W = words in
     let k = c.count.new.windows.counts in
     let cs : Counts = counts_in (all_signs words) k in
     let counted : cs ≡ fold with_position [] (seen_in c.args.table.now words pass m) = counted_as c.args.table.now words pass m m1 cs c.begin_pass.ensures c.in_ok-before.ensures.did.counts in
-    let ready : IsReady source pass.level pass.len (known_of m) c.count.new.self =
-    subst (λ (x : Knowledge). IsReady source pass.level pass.len x c.count.new.self) (ap known_of c.begin_pass.ensures) c.in_ok-before.ensures.ready in
+    let ready : IsReady T W pass.level pass.len (known_of m) c.count.new.self =
+    subst (λ (x : Knowledge). IsReady T W pass.level pass.len x c.count.new.self) (ap known_of c.begin_pass.ensures) c.in_ok-before.ensures.ready in
     let n = g.E.Engine.meaning c.choose_all.new.engine in
     let has : HasChosen params (map candidate_of cs) m1 n =
     subst (λ (x : StartCounts). HasChosen params (map candidate_of (counts_in (all_signs words) x)) m1 n) c.decide.ensures.counts
@@ -164,7 +166,7 @@ after_choices-requires-clause-totals g c =
     (subst (λ (xs : List ℕ). c.in_ok-choices.choices ≡ with_candidates params no_choices (map candidate_of (counts_in xs c.decide.new.self.counts))) c.all_signs-signs.ensures c.in_ok-choices.ensures.choices) in
     let numbers = numbers_are c.args.table.now words params pass m cs c.in_ok-choices.choices counted chosen in
     subst (λ (x : StartCounts). CanGoOn params pass (counts_in (all_signs words) x) words c.in_ok-choices.choices c.count.new.self) (sym c.decide.ensures.counts)
-    (can_go_on source params (known_of m) pass c.in_ok-choices.choices cs c.count.new.self (are_of source params (known_of m) pass c.in_ok-choices.choices numbers) c.in_ok-before.ensures.counted
+    (can_go_on T W params (known_of m) pass c.in_ok-choices.choices cs c.count.new.self (are_of T W params (known_of m) pass c.in_ok-choices.choices numbers) c.in_ok-before.ensures.counted
     counted ready)
 
 pub returns-clause-done : goal.returns-clause-done
@@ -174,7 +176,8 @@ returns-clause-done g c =
     let words = c.args.dictionary.now in
     let pass = c.args.pass in
     let params = c.args.params.now in
-    let source = source_of c.args.table.now words in
+    let T = c.args.table.now in
+    let W = words in
     let k = c.count.new.windows.counts in
     let cs : Counts = counts_in (all_signs words) k in
     let counted : cs ≡ fold with_position [] (seen_in c.args.table.now words pass m) = counted_as c.args.table.now words pass m m1 cs c.begin_pass.ensures c.in_ok-before.ensures.did.counts in
@@ -185,7 +188,7 @@ returns-clause-done g c =
     let chosen : c.in_ok-choices.choices ≡ with_candidates params no_choices (map candidate_of cs) =
     subst (λ (x : StartCounts). c.in_ok-choices.choices ≡ with_candidates params no_choices (map candidate_of (counts_in (all_signs words) x))) c.decide.ensures.counts
     (subst (λ (xs : List ℕ). c.in_ok-choices.choices ≡ with_candidates params no_choices (map candidate_of (counts_in xs c.decide.new.self.counts))) c.all_signs-signs.ensures c.in_ok-choices.ensures.choices) in
-    let before = c.in_ok-before.ensures.did.totals ∙ ap (λ (x : Meaning). totals_by source x.patterns) c.begin_pass.ensures in
+    let before = c.in_ok-before.ensures.did.totals ∙ ap (λ (x : Meaning). totals_by T W x.patterns) c.begin_pass.ensures in
     did_pass c.args.table.now words params pass m m1 n cs c.in_ok-before.before c.in_ok-choices.choices c.layout.result c.begin_pass.ensures counted before has chosen c.layout.ensures
 
 pub returns-clause-ready : goal.returns-clause-ready
@@ -195,12 +198,13 @@ returns-clause-ready g c =
     let words = c.args.dictionary.now in
     let pass = c.args.pass in
     let params = c.args.params.now in
-    let source = source_of c.args.table.now words in
+    let T = c.args.table.now in
+    let W = words in
     let k = c.count.new.windows.counts in
     let cs : Counts = counts_in (all_signs words) k in
     let counted : cs ≡ fold with_position [] (seen_in c.args.table.now words pass m) = counted_as c.args.table.now words pass m m1 cs c.begin_pass.ensures c.in_ok-before.ensures.did.counts in
-    let ready : IsReady source pass.level pass.len (known_of m) c.count.new.self =
-    subst (λ (x : Knowledge). IsReady source pass.level pass.len x c.count.new.self) (ap known_of c.begin_pass.ensures) c.in_ok-before.ensures.ready in
+    let ready : IsReady T W pass.level pass.len (known_of m) c.count.new.self =
+    subst (λ (x : Knowledge). IsReady T W pass.level pass.len x c.count.new.self) (ap known_of c.begin_pass.ensures) c.in_ok-before.ensures.ready in
     let n = g.E.Engine.meaning c.choose_all.new.engine in
     let has : HasChosen params (map candidate_of cs) m1 n =
     subst (λ (x : StartCounts). HasChosen params (map candidate_of (counts_in (all_signs words) x)) m1 n) c.decide.ensures.counts
@@ -212,9 +216,9 @@ returns-clause-ready g c =
     let state = pass_state c.args.table.now words params pass m m1 n cs c.begin_pass.ensures counted has in
     let on : GoesOnAfter params pass cs words c.in_ok-choices.choices c.count.new.self c.after_choices.new.self =
     subst (λ (x : StartCounts). GoesOnAfter params pass (counts_in (all_signs words) x) words c.in_ok-choices.choices c.count.new.self c.after_choices.new.self) c.decide.ensures.counts c.after_choices.ensures.after in
-    subst (λ (x : Knowledge). IsReady source pass.level pass.len x c.after_choices.new.self) (sym (ap (λ (s : State). s.known) state))
-    (ready_after source params (known_of m) pass c.in_ok-choices.choices cs c.count.new.self c.after_choices.new.self
-    (are_of source params (known_of m) pass c.in_ok-choices.choices numbers) c.in_ok-before.ensures.counted (omega (arith, c.requires.ranges.within, c.requires.ranges.len_high))
+    subst (λ (x : Knowledge). IsReady T W pass.level pass.len x c.after_choices.new.self) (sym (ap (λ (s : State). s.known) state))
+    (ready_after T W params (known_of m) pass c.in_ok-choices.choices cs c.count.new.self c.after_choices.new.self
+    (are_of T W params (known_of m) pass c.in_ok-choices.choices numbers) c.in_ok-before.ensures.counted (omega (arith, c.requires.ranges.within, c.requires.ranges.len_high))
     counted on ready)
 
 pub returns-clause-counted : goal.returns-clause-counted

@@ -3,7 +3,6 @@ use Rattle.pg_patterns.specs.Inside.PatternMaps.{SignsUpTo}
 use Rattle.pg_driver.specs.Inside.records.SoundRecords.{CompletedRun}
 use Rattle.pg_driver.specs.Inside.level.States.{State}
 use Rattle.pg_driver.specs.Inside.records.RunAccounts.{TellsCells, account_of, cells_from, run_from}
-use Rattle.pg_driver.specs.Traces.{source_of}
 use Rattle.pg_driver.proofs.RunAccountSteps.{told_account, told_cells}
 use Rattle.pg_driver.proofs.RunSigns.{run_signs}
 use Rattle.pg_driver.proofs.levels.generate.Goals as goal
@@ -22,7 +21,7 @@ returns-clause-account g c =
     let m0 = g.E.Engine.meaning c.args.engine.now in
     let n = g.E.Engine.meaning c.run_levels.new.engine in
     let run = run_from c.args.table.now c.args.dictionary.now c.args.params.now m0 in
-    ap account_of c.new.ensures ∙ told_account (source_of c.args.table.now c.args.dictionary.now) run m0 n c.run_levels.new.records c.in_ok-patterns.patterns
+    ap account_of c.new.ensures ∙ told_account c.args.table.now c.args.dictionary.now run m0 n c.run_levels.new.records c.in_ok-patterns.patterns
     c.in_ok-totals.totals c.layout-first_layout.result c.in_ok-totals.ensures.run c.in_ok-totals.ensures.totals
 
 pub returns-clause-cells : goal.returns-clause-cells
@@ -31,7 +30,7 @@ returns-clause-cells g c =
     let n = g.E.Engine.meaning c.run_levels.new.engine in
     let run = run_from c.args.table.now c.args.dictionary.now c.args.params.now m0 in
     subst (TellsCells (cells_from c.args.table.now c.args.dictionary.now c.args.params.now m0)) (sym c.new.ensures)
-    (told_cells (source_of c.args.table.now c.args.dictionary.now) run m0 n c.run_levels.new.records c.in_ok-patterns.patterns c.in_ok-totals.totals
+    (told_cells c.args.table.now c.args.dictionary.now run m0 n c.run_levels.new.records c.in_ok-patterns.patterns c.in_ok-totals.totals
     c.layout-first_layout.result c.in_ok-totals.ensures.run c.layout-first_layout.ensures c.requires.tidy)
 
 pub returns-clause-begun : goal.returns-clause-begun

@@ -1,4 +1,5 @@
 use Rattle.std.proofs.Common.{◌≡◌, ℕ, ◌+◌, ◌-◌, max, List, [], Option, drop, length, refl, ap, subst, ◌∙◌, arith, sym}
+use Rattle.pg_select.specs.Sums.{totals as totals_by}
 use Rattle.pg_dict.specs.Inside.SoundWords.{SignsAtMost}
 use Rattle.std.specs.List.{enumerate_from}
 use Rattle.std.specs.Option.{IfSome}
@@ -7,12 +8,11 @@ use Rattle.pg_types.specs.declared.parameters.LevelParams.{LevelParams}
 use Rattle.pg_patterns.specs.Values.{largest}
 use Rattle.pg_select.specs.Inside.laws.Steps.{IsUpTo}
 use Rattle.pg_starts.specs.Inside.Known.{AreKnown}
-use Rattle.pg_driver.specs.Accounts.{totals_by}
+use Rattle.pg_driver.specs.Inside.level.Passes.{level_traces}
 use Rattle.pg_driver.specs.Inside.counting.LevelCounting.{HasEnded}
 use Rattle.pg_driver.specs.Inside.records.SoundRecords.{IsSmall, RunRecords}
 use Rattle.pg_driver.specs.Inside.level.States.{State}
 use Rattle.pg_driver.specs.Inside.records.RunAccounts.{run_from}
-use Rattle.pg_driver.specs.Traces.{level_traces, source_of}
 use Rattle.pg_driver.proofs.OpenSigns.{signs_few}
 use Rattle.pg_driver.proofs.OpenTraces.{below_level, up_to_next, up_to_starting}
 use Rattle.pg_driver.proofs.RunSteps.{all_levels, level_on, levels_step, no_levels, run_begins, run_whole}
@@ -21,17 +21,18 @@ use Rattle.pg_driver.proofs.levels.run_levels.Goals as goal
 pub levels-init : goal.levels-init
 levels-init g c =
     let m0 = g.E.Engine.meaning c.args.engine.now in
-    let source = source_of c.args.table.now c.args.dictionary.now in
+    let T = c.args.table.now in
+    let W = c.args.dictionary.now in
     record {
       reaches = record {
         done = [];
-        did = run_begins source m0 c.args.records.now c.requires.hopeless c.requires.none;
+        did = run_begins T W m0 c.args.records.now c.requires.hopeless c.requires.none;
         left =
-            ap (λ (ls : List (ℕ × LevelParams)). level_traces source m0.patterns ls) (all_levels c.start-first.result c.args.params.now.levels
+            ap (λ (ls : List (ℕ × LevelParams)). level_traces T W m0.patterns ls) (all_levels c.start-first.result c.args.params.now.levels
             ∙ ap (λ (n : ℕ). enumerate_from n c.args.params.now.levels) c.start-first.ensures.value);
       };
       upto = up_to_starting c.largest-greatest.result (c.start-first.result + 0 - 1) m0.patterns (c.largest-greatest.ensures.value ∙ ap largest c.in_ok-copy_patterns.ensures);
-      ended = c.new-counting.ensures source (c.start-first.result + 0 - 1) m0.patterns;
+      ended = c.new-counting.ensures T W (c.start-first.result + 0 - 1) m0.patterns;
       known = subst (λ (xs : List ℕ). AreKnown xs c.in_ok-windows.windows.counts.numbers) c.all_signs.ensures c.in_ok-windows.ensures;
       totals = tt;
       small = tt;
@@ -50,7 +51,8 @@ levels-preserved g c =
     let m0 = g.E.Engine.meaning c.args.engine.now in
     let m = g.E.Engine.meaning c.levels.engine in
     let n = g.E.Engine.meaning c.run_level.new.engine in
-    let source = source_of c.args.table.now c.args.dictionary.now in
+    let T = c.args.table.now in
+    let W = c.args.dictionary.now in
     let start = c.start-first.result in
     let i = c.levels.i in
     let levels = c.args.params.now.levels in
@@ -58,13 +60,13 @@ levels-preserved g c =
     let on : start + i + 1 ≡ start + (i + 1) = omega arith in
     record {
       reaches =
-          level_on source m0 m n c.levels.records c.run_level.new.records (start + i, c.level.result.now) (enumerate_from (start + i) (drop i levels))
+          level_on T W m0 m n c.levels.records c.run_level.new.records (start + i, c.level.result.now) (enumerate_from (start + i) (drop i levels))
           (enumerate_from (start + (i + 1)) (drop (i + 1) levels)) (run_from c.args.table.now c.args.dictionary.now c.args.params.now m0) c.levels.invariant.signs
           (levels_step start i levels c.level.result.now c.level.ensures.value) c.in_ok-after.ensures.done c.levels.invariant.reaches;
       upto =
           subst (λ (k : ℕ). IsUpTo (max greatest (k - 1)) n.patterns) on
-          (up_to_next source c.level.result.now greatest (start + i) m.patterns n.patterns (ap (λ (s : State). s.known.patterns) c.in_ok-after.ensures.done.state) c.levels.invariant.upto);
-      ended = subst (λ (k : ℕ). HasEnded source k n.patterns c.run_level.new.counting) (let last : start + i ≡ start + (i + 1) - 1 = omega arith in last) c.in_ok-after.ensures.ended;
+          (up_to_next T W c.level.result.now greatest (start + i) m.patterns n.patterns (ap (λ (s : State). s.known.patterns) c.in_ok-after.ensures.done.state) c.levels.invariant.upto);
+      ended = subst (λ (k : ℕ). HasEnded T W k n.patterns c.run_level.new.counting) (let last : start + i ≡ start + (i + 1) - 1 = omega arith in last) c.in_ok-after.ensures.ended;
       known = c.in_ok-after.ensures.known;
       totals = c.in_ok-after.ensures.totals;
       small = c.in_ok-after.ensures.small;
@@ -80,7 +82,7 @@ returns-in-Some-clause-run g c =
     let m0 = g.E.Engine.meaning c.args.engine.now in
     let m = g.E.Engine.meaning c.levels.engine in
     let rest = enumerate_from (c.start-first.result + c.levels.i) (drop c.levels.i c.args.params.now.levels) in
-    run_whole (source_of c.args.table.now c.args.dictionary.now) m0 m c.levels.records rest (run_from c.args.table.now c.args.dictionary.now c.args.params.now m0)
+    run_whole c.args.table.now c.args.dictionary.now m0 m c.levels.records rest (run_from c.args.table.now c.args.dictionary.now c.args.params.now m0)
     (no_levels c.start-first.result c.levels.i c.args.params.now.levels (omega (arith, c.count-count.ensures.value))) c.levels.invariant.reaches
 
 pub run_level-requires-clause-below : goal.run_level-requires-clause-below
@@ -93,7 +95,7 @@ run_level-requires-clause-ended g c = c.levels.invariant.ended
 pub returns-in-Some-clause-totals : goal.returns-in-Some-clause-totals
 returns-in-Some-clause-totals g c =
     let m = g.E.Engine.meaning c.levels.engine in
-    subst (λ (o : Option Totals). IfSome o (λ after. after ≡ totals_by (source_of c.args.table.now c.args.dictionary.now) m.patterns)) c.in-Some.is c.levels.invariant.totals
+    subst (λ (o : Option Totals). IfSome o (λ after. after ≡ totals_by c.args.table.now c.args.dictionary.now m.patterns)) c.in-Some.is c.levels.invariant.totals
 
 pub returns-in-Some-clause-small : goal.returns-in-Some-clause-small
 returns-in-Some-clause-small g c = subst (λ (o : Option Totals). IfSome o IsSmall) c.in-Some.is c.levels.invariant.small
@@ -151,7 +153,7 @@ returns-clause-run g c =
     let m0 = g.E.Engine.meaning c.args.engine.now in
     let m = g.E.Engine.meaning c.levels.engine in
     let rest = enumerate_from (c.start-first.result + c.levels.i) (drop c.levels.i c.args.params.now.levels) in
-    run_whole (source_of c.args.table.now c.args.dictionary.now) m0 m c.levels.records rest (run_from c.args.table.now c.args.dictionary.now c.args.params.now m0)
+    run_whole c.args.table.now c.args.dictionary.now m0 m c.levels.records rest (run_from c.args.table.now c.args.dictionary.now c.args.params.now m0)
     (no_levels c.start-first.result c.levels.i c.args.params.now.levels (omega (arith, c.count-count.ensures.value))) c.levels.invariant.reaches
 
 pub returns-clause-totals : goal.returns-clause-totals

@@ -2,9 +2,7 @@ use Rattle.std.proofs.Common.{◌≡◌, ℕ, ◌+◌, List, [], drop, ap, sym, 
 use Rattle.std.specs.List.{flat_map}
 use Rattle.pg_dict.specs.Inside.LentWords.{lent_word}
 use Rattle.pg_dict.specs.Word.{Word}
-use Rattle.pg_select.specs.Sums.{marks_in}
-use Rattle.pg_select.specs.Inside.SumSteps.{with_marks, sum_of}
-use Rattle.pg_select.specs.CountedPositions.{minima_of}
+use Rattle.pg_select.specs.Inside.SumSteps.{marks_in, with_marks, sum_of}
 use Rattle.pg_select.proofs.MarkSteps.{marks_none, marks_word, marks_zero}
 use Rattle.pg_driver.proofs.WordSteps.{drop_place, letters_left, signs_within}
 use Rattle.std.proofs.lemmas.List.{drop_all}
@@ -21,7 +19,7 @@ add_word-sums-requires-clause-room g c = omega (arith, letters_left c.args.dicti
 pub words-preserved : goal.words-preserved
 words-preserved g c =
     let P = (g.E.Engine.meaning c.args.engine.now).patterns in
-    let minima = minima_of c.args.table.now in
+    let minima = c.args.table.now in
     let w = lent_word c.word.result in
     let place = drop_place c.args.dictionary.now c.words.i w c.word.ensures.lent in
     record {
@@ -38,7 +36,7 @@ add_word-sums-requires-clause-word g c = c.word.ensures.word
 
 pub words-init : goal.words-init
 words-init g c =
-    let marks : List (Mark × ℕ) = flat_map (marks_in (minima_of c.args.table.now) (g.E.Engine.meaning c.args.engine.now).patterns) c.args.dictionary.now in
+    let marks : List (Mark × ℕ) = flat_map (marks_in c.args.table.now (g.E.Engine.meaning c.args.engine.now).patterns) c.args.dictionary.now in
     record {
       sums = ap (λ (t : Totals). with_marks t marks) c.no_totals-sums.ensures ∙ marks_zero marks;
       room_for = omega (arith, ap sum_of c.no_totals-sums.ensures, c.len-i-end.ensures.letters);
@@ -49,7 +47,7 @@ returns-clause-value g c =
     let P = (g.E.Engine.meaning c.args.engine.now).patterns in
     let none : drop c.words.i c.args.dictionary.now ≡ [] = drop_all c.words.i c.args.dictionary.now (omega (arith, c.words-test.false, c.len-i-end.ensures.len)) in
     sym (marks_none c.words.sums)
-    ∙ ap (λ (ws : List Word). with_marks c.words.sums (flat_map (marks_in (minima_of c.args.table.now) P) ws)) (sym none)
+    ∙ ap (λ (ws : List Word). with_marks c.words.sums (flat_map (marks_in c.args.table.now P) ws)) (sym none)
     ∙ c.words.invariant.sums
 
 pub returns-clause-small : goal.returns-clause-small

@@ -6,6 +6,7 @@ use Rattle.std.specs.Cmp.Lexicographic.{slice_cmp}
 use Rattle.std.specs.FinMap.Entries.{is_sorted}
 use Rattle.pg_types.specs.declared.limits.TheConstants.{WEIGHT_MAX, FILE_MAX}
 use Rattle.pg_types.specs.Inside.Signs.{SignsWithin}
+use Rattle.pg_translate.specs.Alphabets.{Alphabet}
 use Rattle.pg_dict.specs.Word.{Word}
 use Rattle.pg_dict.specs.Inside.SoundWords.{IsWord, letter_count}
 use Rattle.pg_types.specs.Inside.counting.Counts.{Counts}
@@ -15,7 +16,6 @@ use Rattle.pg_starts.specs.Inside.Known.{AreKnown, is_numbered}
 use Rattle.pg_select.specs.Inside.laws.Laws.{AreFew, number_of_positions}
 use Rattle.pg_select.specs.Inside.engine.Meanings.{Meaning}
 use Rattle.pg_select.specs.Inside.words.Positions.{Positions, HasValues, HasCovers}
-use Rattle.pg_driver.specs.Traces.{Source}
 
 -- the windows of a length that may be counted have numbers: those at open dots, or all
 pub record AreNumbersFor (words : List Word) (size : ℕ) (is_open : ℕ → ℕ → Bool) (n : StartNumbers)
@@ -34,9 +34,9 @@ pub record IsRead (m : Meaning) (w : Word) (at : Positions) : Type 0 where
   pub covers : HasCovers m.pass m.patterns m.hopeless w.signs at.covers
 
 -- the words are few, and have together no more positions in reach than letters
-pub record IsBounded (source : Source) : Type 0 where
-  pub few : AreFew source.words
-  pub reached : number_of_positions source.minima source.words ≤ sum_by letter_count source.words
+pub record IsBounded (T : Alphabet) (W : List Word) : Type 0 where
+  pub few : AreFew W
+  pub reached : number_of_positions T W ≤ sum_by letter_count W
 
 -- whether the window of an entry has a sign
 abbrev pub is_filled : List ℕ × (ℕ × ℕ) → Bool

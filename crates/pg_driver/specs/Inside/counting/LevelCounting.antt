@@ -6,10 +6,12 @@ use Rattle.pg_types.specs.declared.marks.Totals.{Totals}
 use Rattle.pg_types.specs.declared.parameters.LevelParams.{LevelParams}
 use Rattle.pg_types.specs.Inside.counting.Counts.{Counts}
 use Rattle.pg_types.specs.Inside.counting.NumberedWindows.{Windows}
+use Rattle.pg_translate.specs.Alphabets.{Alphabet}
+use Rattle.pg_select.specs.Sums.{totals as totals_by}
 use Rattle.pg_dict.specs.Inside.Store.{all_signs}
 use Rattle.pg_dict.specs.Word.{Word}
 use Rattle.pg_select.specs.declared.pass.Pass.{Pass}
-use Rattle.pg_select.specs.CountedPositions.{counted_positions}
+use Rattle.pg_select.specs.Inside.words.PositionLists.{counted_positions}
 use Rattle.pg_select.specs.Inside.laws.Steps.{FindsMore, PreventsMore}
 use Rattle.pg_select.specs.Inside.engine.Meanings.{Meaning, with_position}
 use Rattle.pg_starts.specs.declared.start_numbers.StartNumbers.{StartNumbers}
@@ -22,7 +24,6 @@ use Rattle.pg_driver.specs.declared.counting.WayToCount.TheVariants.{Open, EachW
 use Rattle.pg_driver.specs.declared.counting.open_positions.OpenLevel.{OpenLevel}
 use Rattle.pg_driver.specs.declared.counting.word_level.WordLevel.{WordLevel}
 use Rattle.pg_driver.specs.declared.counting.above_positions.ChosenWeights.{ChosenWeights}
-use Rattle.pg_driver.specs.Accounts.{totals_by}
 use Rattle.pg_dots.specs.Inside.Dots.{is_closed, position_count}
 use Rattle.pg_dots.specs.Inside.Positions.{is_among, positions_room}
 use Rattle.pg_driver.specs.Inside.counting.Counting.{AreNumbersFor, HasRoom, IsBounded}
@@ -30,49 +31,50 @@ use Rattle.pg_driver.specs.Inside.counting.OpenSigns.{AreNever, IsLevelAt, Tells
 use Rattle.pg_driver.specs.Inside.counting.OpenPositions.{IsInWord}
 use Rattle.pg_driver.specs.Inside.level.PassWindows.{HaveNumbers, is_counted_at}
 use Rattle.pg_driver.specs.Inside.records.SoundRecords.{IsSmall}
-use Rattle.pg_driver.specs.Traces.{Knowledge, Source}
+use Rattle.pg_driver.specs.Traces.{Knowledge}
 use Rattle.pg_driver.specs.Inside.counting.WordLevels.{IsWordsAt, chosen_weights}
 use Rattle.pg_types.specs.Inside.Limits.{sums_limit}
 use Rattle.pg_patterns.specs.Values.{Patterns}
 
 -- a pass was counted: the counts have its windows and are not full, and the totals are those before
-pub record DidCount (source : Source) (pass : Pass)
+pub record DidCount (T : Alphabet) (W : List Word) (pass : Pass)
     (m : Meaning) (cs : Counts) (before : Totals) : Type 0 where
   pub counts : cs ≡ fold with_position []
-      (counted_positions source.minima source.words pass m.patterns m.hopeless)
+      (counted_positions T W pass m.patterns m.hopeless)
   pub room : HasRoom cs 0
-  pub totals : before ≡ totals_by source m.patterns
+  pub totals : before ≡ totals_by T W m.patterns
   pub small : IsSmall before
 
 -- the dots are closed as they are at a length of a level, and the totals are those by the patterns
-pub record IsOpenAt (source : Source) (level len : ℕ)
+pub record IsOpenAt (T : Alphabet) (W : List Word) (level len : ℕ)
     (known : Knowledge) (o : OpenLevel) : Type 0 where
-  pub bounded : IsBounded source
-  pub size : sign_count source.words ≤ position_count o.dots
-  pub dots : IsLevelAt level len source.minima source.words known.patterns known.hopeless
+  pub bounded : IsBounded T W
+  pub size : sign_count W ≤ position_count o.dots
+  pub dots : IsLevelAt level len T W known.patterns known.hopeless
       (is_closed o.dots)
   pub room : positions_room o.never ≡ position_count o.dots
-  pub never : AreNever source.minima source.words (is_among o.never)
-  pub totals : o.totals ≡ totals_by source known.patterns
+  pub never : AreNever T W (is_among o.never)
+  pub totals : o.totals ≡ totals_by T W known.patterns
 
 -- what is known of open positions at the end of a level, where these are the patterns
-pub record HasEndedOpen (source : Source) (level : ℕ) (P : Patterns) (o : OpenLevel) : Type 0 where
-  pub bounded : IsBounded source
-  pub size : sign_count source.words ≤ position_count o.dots
-  pub status : TellsStatus level source.minima source.words P (is_closed o.dots)
+pub record HasEndedOpen (T : Alphabet) (W : List Word) (level : ℕ)
+    (P : Patterns) (o : OpenLevel) : Type 0 where
+  pub bounded : IsBounded T W
+  pub size : sign_count W ≤ position_count o.dots
+  pub status : TellsStatus level T W P (is_closed o.dots)
   pub room : positions_room o.never ≡ position_count o.dots
-  pub never : AreNever source.minima source.words (is_among o.never)
-  pub totals : o.totals ≡ totals_by source P
+  pub never : AreNever T W (is_among o.never)
+  pub totals : o.totals ≡ totals_by T W P
 
 -- a level has ended, or none has begun
-abbrev pub HasEnded : Source → ℕ → Patterns → WayToCount → Type 0
-HasEnded source level P (Open o) = HasEndedOpen source level P o
-HasEnded source level P (EachWord e) = Unit {0}
+abbrev pub HasEnded : Alphabet → List Word → ℕ → Patterns → WayToCount → Type 0
+HasEnded T W level P (Open o) = HasEndedOpen T W level P o
+HasEnded T W level P (EachWord e) = Unit {0}
 
 -- a way to count is ready for the passes of a length
-abbrev pub IsReady : Source → ℕ → ℕ → Knowledge → WayToCount → Type 0
-IsReady source level len known (Open o) = IsOpenAt source level len known o
-IsReady source level len known (EachWord e) = IsWordsAt source level known e
+abbrev pub IsReady : Alphabet → List Word → ℕ → ℕ → Knowledge → WayToCount → Type 0
+IsReady T W level len known (Open o) = IsOpenAt T W level len known o
+IsReady T W level len known (EachWord e) = IsWordsAt T W level known e
 
 -- windows are counted at open positions, so no word is hyphenated in a pass
 abbrev pub IsOverOpen : WayToCount → Type 0
@@ -90,8 +92,8 @@ totals_carried (Open o) = o.totals
 totals_carried (EachWord e) = e.totals
 
 -- the totals that it carries are those by the patterns, and small
-abbrev pub TellsTotals : Source → Patterns → WayToCount → Type 0
-TellsTotals source P c = (totals_carried c ≡ totals_by source P) × IsSmall (totals_carried c)
+abbrev pub TellsTotals : Alphabet → List Word → Patterns → WayToCount → Type 0
+TellsTotals T W P c = (totals_carried c ≡ totals_by T W P) × IsSmall (totals_carried c)
 
 -- the open dots have a bit for each sign of the words; or, if each word is hyphenated, the listed
 -- positions lie in the words, and are at most FILE_MAX

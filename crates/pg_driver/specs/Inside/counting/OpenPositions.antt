@@ -1,17 +1,18 @@
 -- The open positions of a level, in the order of words and positions.
 use Rattle.std.specs.Prelude.{◌≡◌, ℕ, ◌+◌, ◌<◌, Bool, false, List, [], ◌∷◌, ◌++◌, length, map, slice_get, Option, Some}
 use Rattle.std.specs.Option.{option_map_or}
+use Rattle.pg_translate.specs.Alphabets.{Alphabet}
 use Rattle.pg_translate.specs.Reach.{positions}
 use Rattle.pg_dict.specs.Word.{Word}
 use Rattle.pg_select.specs.declared.pass.Pass.{Pass}
-use Rattle.pg_select.specs.CountedPositions.{Minima, CountedPosition}
+use Rattle.pg_select.specs.Inside.words.PositionLists.{CountedPosition}
 use Rattle.pg_select.specs.Statuses.{position_weight}
 use Rattle.pg_select.specs.Windows.{window}
 use Rattle.pg_driver.specs.declared.pass_windows.WordPosition.{WordPosition}
 use Rattle.pg_select.specs.Inside.laws.ClosedDots.{counted_with}
 
 -- the positions in reach of words, each with the number of its word, from a number on
-abbrev pub numbered_positions : Minima → ℕ → List Word → List (ℕ × ℕ)
+abbrev pub numbered_positions : Alphabet → ℕ → List Word → List (ℕ × ℕ)
 numbered_positions m n [] = []
 numbered_positions m n (w ∷ words) = map (λ p. (n, p)) (positions m.left m.right (length w.signs))
     ++ numbered_positions m (n + 1) words

@@ -10,6 +10,7 @@ use Rattle.pg_types.specs.declared.parameters.LevelParams.{LevelParams}
 use Rattle.pg_types.specs.Inside.Limits.{positions_limit}
 use Rattle.pg_types.specs.Inside.counting.Counts.{Counts, counted_sums}
 use Rattle.pg_types.specs.Inside.counting.NumberedWindows.{HasNumber, Windows}
+use Rattle.pg_translate.specs.Alphabets.{Alphabet}
 use Rattle.pg_translate.specs.Reach.{positions}
 use Rattle.pg_dict.specs.Inside.Store.{all_signs}
 use Rattle.pg_dict.specs.Word.{Word}
@@ -18,7 +19,7 @@ use Rattle.pg_select.specs.declared.choice.Choice.{Choice}
 use Rattle.pg_select.specs.declared.choice.Choice.TheVariants.{Hopeless as GivenUp, Chosen, Left}
 use Rattle.pg_select.specs.declared.pass.Pass.{Pass}
 use Rattle.pg_select.specs.Inside.Choices.{choice}
-use Rattle.pg_select.specs.CountedPositions.{Minima, counts_as}
+use Rattle.pg_select.specs.CountedPositions.{counts_as}
 use Rattle.pg_select.specs.Inside.laws.ClosedDots.{TellCounted}
 use Rattle.pg_select.specs.Inside.laws.Steps.{CoversUpTo, IsUpTo}
 use Rattle.pg_select.specs.Statuses.{status_at}
@@ -59,11 +60,11 @@ open_word_positions closed words =
     map (position_from 0 words) (open_signs closed 0 (sign_count words))
 
 -- a position of a word is in reach
-abbrev pub is_in_reach : Minima → Word → ℕ → Bool
+abbrev pub is_in_reach : Alphabet → Word → ℕ → Bool
 is_in_reach m w p = list_any (nat_eq p) (positions m.left m.right (length w.signs))
 
 -- a position is open where a level begins: it is in reach and counts by its status
-abbrev pub is_open_first : Minima → ℕ → Patterns → Word → ℕ → Bool
+abbrev pub is_open_first : Alphabet → ℕ → Patterns → Word → ℕ → Bool
 is_open_first m level P w p = is_in_reach m w p && is_some (counts_as level (status_at P w p))
 
 -- a position of this status has care
@@ -72,7 +73,7 @@ has_care DontCare = false
 has_care other = true
 
 -- by its status a position counts at odd levels or at even ones: it is in reach and has care
-abbrev pub takes_part : Minima → Word → ℕ → Bool
+abbrev pub takes_part : Alphabet → Word → ℕ → Bool
 takes_part m w p = is_in_reach m w p && slice_index_or w.cares p true
 
 -- a dot that is greater than those of all passes
@@ -80,26 +81,26 @@ abbrev pub dot_of_no_pass : ℕ
 dot_of_no_pass = LENGTH_MAX + 1
 
 -- the dot of no pass is closed where a position does not count at the level by its status now
-abbrev pub TellsStatus : ℕ → Minima → List Word → Patterns → (ℕ → ℕ → Bool) → Type 0
+abbrev pub TellsStatus : ℕ → Alphabet → List Word → Patterns → (ℕ → ℕ → Bool) → Type 0
 TellsStatus level m words P closed = (n p : ℕ) (w : Word)
     → slice_get words n ≡ Some w → p < length w.signs
     → closed dot_of_no_pass (start_of words n + p) ≡ not (is_open_first m level P w p)
 
 -- of the signs of words those are in the set that count at no level
-abbrev pub AreNever : Minima → List Word → (ℕ → Bool) → Type 0
+abbrev pub AreNever : Alphabet → List Word → (ℕ → Bool) → Type 0
 AreNever m words among = (n p : ℕ) (w : Word) → slice_get words n ≡ Some w → p < length w.signs
     → among (start_of words n + p) ≡ not (takes_part m w p)
 
 -- at a length the closed dots of a position tell what counts there; out of reach all are closed
-pub record DotsTell (level len : ℕ) (m : Minima) (P : Patterns) (H : Hopeless) (w : Word) (p : ℕ)
+pub record DotsTell (level len : ℕ) (m : Alphabet) (P : Patterns) (H : Hopeless) (w : Word) (p : ℕ)
     (closed : ℕ → Bool) : Type 0 where
   pub inside : is_in_reach m w p ≡ true → TellCounted level len P H w p closed
   pub outside : is_in_reach m w p ≡ false → (d : ℕ) → d ≤ LENGTH_MAX → closed d ≡ true
 
 -- how far a level is: no string that covers is longer than the length, and no value is above the
 -- level. Closed dots tell what counts in passes of the length, and what counts by the status
-pub record IsLevelAt (level len : ℕ) (m : Minima) (words : List Word) (P : Patterns) (H : Hopeless)
-    (closed : ℕ → ℕ → Bool) : Type 0 where
+pub record IsLevelAt (level len : ℕ) (m : Alphabet) (words : List Word) (P : Patterns)
+    (H : Hopeless) (closed : ℕ → ℕ → Bool) : Type 0 where
   pub short : CoversUpTo level len P H
   pub upto : IsUpTo level P
   pub known : (n p : ℕ) (w : Word) → slice_get words n ≡ Some w → p < length w.signs

@@ -9,20 +9,21 @@ use Rattle.std.specs.FinMap.Entries.{find}
 use Rattle.pg_types.specs.declared.limits.TheConstants.{WEIGHT_MAX}
 use Rattle.pg_types.specs.declared.parameters.LevelParams.{LevelParams}
 use Rattle.pg_types.specs.Inside.counting.Counts.{Counts}
+use Rattle.pg_translate.specs.Alphabets.{Alphabet}
+use Rattle.pg_select.specs.Sums.{totals as totals_by}
 use Rattle.pg_dict.specs.Word.{Word}
 use Rattle.pg_patterns.specs.Values.{Patterns}
 use Rattle.pg_select.specs.declared.pass.Pass.{Pass}
 use Rattle.pg_select.specs.Inside.Choices.{choice}
-use Rattle.pg_select.specs.CountedPositions.{CountedPosition}
+use Rattle.pg_select.specs.Inside.words.PositionLists.{CountedPosition}
 use Rattle.pg_select.specs.Inside.laws.AboveLevel.{counts_above}
 use Rattle.pg_driver.specs.declared.counting.above_positions.ChosenWeights.{ChosenWeights}
 use Rattle.pg_driver.specs.declared.pass_windows.WordPosition.{WordPosition}
 use Rattle.pg_driver.specs.declared.counting.word_level.WordLevel.{WordLevel}
-use Rattle.pg_driver.specs.Accounts.{totals_by}
 use Rattle.pg_driver.specs.Inside.counting.Counting.{IsBounded}
 use Rattle.pg_driver.specs.Inside.counting.OpenLevels.{listed_from}
 use Rattle.pg_driver.specs.Inside.counting.OpenPositions.{counted_of}
-use Rattle.pg_driver.specs.Traces.{Knowledge, Source}
+use Rattle.pg_driver.specs.Traces.{Knowledge}
 use Rattle.pg_driver.specs.Inside.choices.Fates.{chooses}
 
 -- the positions that count and have a value above the level, where they are listed; else none
@@ -30,12 +31,12 @@ abbrev pub listing : Bool → ℕ → Patterns → Word → ℕ → Option Bool
 listing listed level P w p = if listed then counts_above level P w p else None
 
 -- a level in which words are hyphenated in each pass: it lists positions above the level
-pub record IsWordsAt (source : Source) (level : ℕ)
+pub record IsWordsAt (T : Alphabet) (W : List Word) (level : ℕ)
     (known : Knowledge) (e : WordLevel) : Type 0 where
-  pub bounded : e.is_counted ≡ true → IsBounded source
+  pub bounded : e.is_counted ≡ true → IsBounded T W
   pub above : e.above.items
-      ≡ listed_from source.minima (listing e.is_counted level known.patterns) 0 source.words
-  pub totals : e.is_counted ≡ true → e.totals ≡ totals_by source known.patterns
+      ≡ listed_from T (listing e.is_counted level known.patterns) 0 W
+  pub totals : e.is_counted ≡ true → e.totals ≡ totals_by T W known.patterns
 
 -- a window was chosen in a pass that has these sums
 abbrev pub was_chosen : LevelParams → Counts → List ℕ → Bool

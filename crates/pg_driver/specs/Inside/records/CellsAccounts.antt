@@ -2,13 +2,14 @@
 use Rattle.std.specs.Prelude.{ℕ, List, [], ◌∷◌, map, filter}
 use Rattle.std.specs.List.{flat_map}
 use Rattle.pg_types.specs.declared.marks.Layout.{Layout}
-use Rattle.pg_types.specs.Placement.{Families, taken_count, top}
+use Rattle.pg_types.specs.Placement.{Families, top}
+use Rattle.pg_types.specs.Inside.PlacementSteps.{taken_count}
 use Rattle.pg_types.specs.Tails.{tails}
 use Rattle.pg_patterns.specs.Values.{Patterns}
 use Rattle.pg_select.specs.declared.pass.Pass.{Pass}
 use Rattle.pg_driver.specs.Traces.{PassTrace, LevelTrace, Trace, patterns_after}
 use Rattle.pg_driver.specs.Accounts.{has_candidate}
-use Rattle.pg_driver.specs.Layouts.{after_pass, after_level}
+use Rattle.pg_driver.specs.Inside.Layouts.{after_pass, after_level}
 
 -- each pass with the families after it
 abbrev pub passes_with_families : ℕ → Families → List PassTrace → List (PassTrace × Families)

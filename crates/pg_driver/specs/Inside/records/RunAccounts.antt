@@ -1,8 +1,8 @@
 -- What a run that is done tells, and what it is to tell by the trace from an engine's patterns.
 use Rattle.std.specs.Prelude.{ℕ, fold, ◌≡◌, List, map, All, Option, None, Some}
 use Rattle.pg_types.specs.Placement.{Families}
-use Rattle.pg_driver.specs.Traces.{Trace, Knowledge, trace, final_patterns, source_of}
-use Rattle.pg_driver.specs.Layouts.{after_level}
+use Rattle.pg_driver.specs.Traces.{Trace, Knowledge, trace, final_patterns}
+use Rattle.pg_driver.specs.Inside.Layouts.{after_level}
 use Rattle.pg_driver.specs.Inside.records.CellsAccounts.{CellsAccount, cells_account}
 use Rattle.std.specs.Option.{option_map}
 use Rattle.pg_types.specs.declared.marks.Layout.{Layout}
@@ -24,7 +24,7 @@ known_of m = record { patterns = m.patterns; hopeless = m.hopeless }
 
 -- the run from the patterns of an engine: its trace
 abbrev pub run_from : Alphabet → List Word → Parameters → Meaning → Trace
-run_from t words parameters m = trace (source_of t words) parameters m.patterns
+run_from t words parameters m = trace t words parameters m.patterns
 
 -- the patterns at the end of the run from an engine's patterns
 abbrev pub patterns_from : Alphabet → List Word → Parameters → Meaning → Patterns
@@ -32,7 +32,7 @@ patterns_from t words parameters m = final_patterns m.patterns (run_from t words
 
 -- what is told of the run from an engine's patterns
 abbrev pub account_from : Alphabet → List Word → Parameters → Meaning → Account
-account_from t words parameters m = account (source_of t words) m.patterns
+account_from t words parameters m = account t words m.patterns
     (run_from t words parameters m)
 
 -- how many passes of the run from an engine's patterns are begun

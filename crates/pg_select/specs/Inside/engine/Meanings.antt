@@ -8,14 +8,15 @@ use Rattle.std.specs.FinMap.Entries.{put, is_sorted}
 use Rattle.pg_types.specs.declared.marks.Layout.{Layout}
 use Rattle.pg_types.specs.Inside.Signs.{SignsWithin}
 use Rattle.pg_types.specs.Inside.counting.Counts.{Counts, with_count, is_counted}
-use Rattle.pg_types.specs.Placement.{Families, taken_count, top, enter, kept_families}
+use Rattle.pg_types.specs.Placement.{Families, top, enter, kept_families}
+use Rattle.pg_types.specs.Inside.PlacementSteps.{taken_count}
 use Rattle.pg_types.specs.Tails.{tails}
 use Rattle.pg_patterns.specs.DottedSigns.{dotted_cmp}
 use Rattle.pg_patterns.specs.Values.{Patterns, raise}
 use Rattle.pg_patterns.specs.Inside.PatternMaps.{IsPatternMap, SignsUpTo}
 use Rattle.pg_select.specs.Windows.{Hopeless}
 use Rattle.pg_select.specs.declared.pass.Pass.{Pass}
-use Rattle.pg_select.specs.CountedPositions.{CountedPosition}
+use Rattle.pg_select.specs.Inside.words.PositionLists.{CountedPosition}
 
 -- what an engine holds: patterns, hopeless dotted strings, the counts of the pass, and the families
 pub record Meaning : Type 0 where

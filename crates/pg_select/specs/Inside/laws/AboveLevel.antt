@@ -4,11 +4,13 @@ use Rattle.std.specs.Prelude.{ℕ, ◌-◌, ◌≤◌, nat_lt, Bool, not, ◌&&�
 use Rattle.std.specs.List.{flat_map}
 use Rattle.std.specs.Option.{option_map_or}
 use Rattle.pg_types.specs.declared.marks.Totals.{Totals}
+use Rattle.pg_translate.specs.Alphabets.{Alphabet}
 use Rattle.pg_translate.specs.Reach.{positions}
 use Rattle.pg_dict.specs.Word.{Word}
 use Rattle.pg_patterns.specs.Values.{Patterns, value_at}
 use Rattle.pg_select.specs.declared.pass.Pass.{Pass}
-use Rattle.pg_select.specs.CountedPositions.{Minima, CountedPosition, Candidate, counts_as}
+use Rattle.pg_select.specs.CountedPositions.{Candidate, counts_as}
+use Rattle.pg_select.specs.Inside.words.PositionLists.{CountedPosition}
 use Rattle.pg_select.specs.Inside.laws.Steps.{is_candidate, FindsMore, PreventsMore}
 use Rattle.pg_select.specs.Statuses.{status_at, position_weight}
 use Rattle.pg_select.specs.Windows.{window, fits}
@@ -29,11 +31,11 @@ above_at pass P w p = option_map_or
     (if fits w.signs p pass.len pass.dot then counts_above pass.level P w p else None) []
 
 -- the positions in reach of a word that count above the level, with their windows
-abbrev pub above_in : Minima → Pass → Patterns → Word → List CountedPosition
+abbrev pub above_in : Alphabet → Pass → Patterns → Word → List CountedPosition
 above_in m pass P w = flat_map (above_at pass P w) (positions m.left m.right (length w.signs))
 
 -- the positions of all words that count above the level, with their windows
-abbrev pub above_positions : Minima → List Word → Pass → Patterns → List CountedPosition
+abbrev pub above_positions : Alphabet → List Word → Pass → Patterns → List CountedPosition
 above_positions m words pass P = flat_map (above_in m pass P) words
 
 -- the sum of the weights of those that are good and whose windows a pass raised

@@ -8,6 +8,7 @@ use Rattle.std.specs.Cmp.Lexicographic.{slice_cmp}
 use Rattle.std.specs.FinMap.Entries.{put}
 use Rattle.pg_types.specs.Inside.Limits.{sums_limit}
 use Rattle.pg_types.specs.declared.limits.TheConstants.{FILE_MAX}
+use Rattle.pg_translate.specs.Alphabets.{Alphabet}
 use Rattle.pg_translate.specs.Reach.{positions}
 use Rattle.pg_dict.specs.Word.{Word}
 use Rattle.pg_dict.specs.Inside.SoundWords.{IsWord, letter_count}
@@ -16,7 +17,8 @@ use Rattle.pg_patterns.specs.Inside.DottedOrder.{same_dotted}
 use Rattle.pg_patterns.specs.Values.{Patterns, value_of, raise, applies, value_at}
 use Rattle.pg_select.specs.Inside.engine.Meanings.{Meaning, with_position, after_give_up}
 use Rattle.pg_select.specs.declared.pass.Pass.{Pass}
-use Rattle.pg_select.specs.CountedPositions.{Minima, CountedPosition, Candidate, counted_positions, same_signs, candidates, good_of, bad_of, with_sums, counted_at, counts_as}
+use Rattle.pg_select.specs.CountedPositions.{Candidate, counted_at, counts_as, candidates_of}
+use Rattle.pg_select.specs.Inside.words.PositionLists.{CountedPosition, counted_positions, same_signs, candidates, good_of, bad_of, with_sums}
 use Rattle.pg_select.specs.Statuses.{status_at}
 use Rattle.pg_select.specs.Sums.{totals}
 use Rattle.pg_select.specs.Windows.{Hopeless, is_covered}
@@ -42,34 +44,39 @@ abbrev pub CountsAreTally : Type 0
 CountsAreTally = (counted : List CountedPosition)
     → fold with_position [] counted ≡ map counts_entry_of (with_sums counted)
 
+-- the candidates of a pass are those of the list of what it counts
+abbrev pub CandidatesAreListed : Type 0
+CandidatesAreListed = (T : Alphabet) (W : List Word) (pass : Pass) (P : Patterns) (H : Hopeless)
+    → candidates_of T W pass P H ≡ with_sums (counted_positions T W pass P H)
+
 -- words have together at most as many letters as the longest dictionary has bytes
 pub record AreFew (words : List Word) : Type 0 where
   pub each : All IsWord words
   pub letters : sum_by letter_count words ≤ FILE_MAX
 
 -- the number of positions in reach of all words
-abbrev pub number_of_positions : Minima → List Word → ℕ
+abbrev pub number_of_positions : Alphabet → List Word → ℕ
 number_of_positions m words =
     sum_by (λ (w : Word). length (positions m.left m.right (length w.signs))) words
 
 -- where the left minimum is at least 1, words have no more positions in reach than letters
 abbrev pub PositionsAreFew : Type 0
-PositionsAreFew = (m : Minima) (words : List Word)
+PositionsAreFew = (m : Alphabet) (words : List Word)
     → 1 ≤ m.left → number_of_positions m words ≤ sum_by letter_count words
 
 -- a pass has no more candidates than positions in reach
 abbrev pub CandidatesAreFew : Type 0
-CandidatesAreFew = (m : Minima) (words : List Word) (pass : Pass) (P : Patterns) (H : Hopeless)
+CandidatesAreFew = (m : Alphabet) (words : List Word) (pass : Pass) (P : Patterns) (H : Hopeless)
     → length (candidates (counted_positions m words pass P H)) ≤ number_of_positions m words
 
 -- the totals of such words are below the limit of sums, also together
 abbrev pub TotalsAreSmall : Type 0
-TotalsAreSmall = (m : Minima) (words : List Word) (P : Patterns) → 1 ≤ m.left → AreFew words
+TotalsAreSmall = (m : Alphabet) (words : List Word) (P : Patterns) → 1 ≤ m.left → AreFew words
     → (totals m words P).good + (totals m words P).bad + (totals m words P).missed < sums_limit
 
 -- the weights of all that a pass counts in such words are together below the limit of sums
 abbrev pub CountedAreLight : Type 0
-CountedAreLight = (m : Minima) (words : List Word) (pass : Pass) (P : Patterns) (H : Hopeless)
+CountedAreLight = (m : Alphabet) (words : List Word) (pass : Pass) (P : Patterns) (H : Hopeless)
     → 1 ≤ m.left
     → AreFew words → sum_by (λ s. s.weight) (counted_positions m words pass P H) < sums_limit
 
@@ -80,14 +87,14 @@ SumsAreParts = (counted : List CountedPosition) (u : List ℕ)
 
 -- each candidate has at the dot of the pass a value below the level
 abbrev pub CandidatesAreLow : Type 0
-CandidatesAreLow = (m : Minima) (words : List Word) (pass : Pass) (P : Patterns) (H : Hopeless)
+CandidatesAreLow = (m : Alphabet) (words : List Word) (pass : Pass) (P : Patterns) (H : Hopeless)
     → 1 ≤ pass.level
     → All (λ u. value_of P (u, pass.dot) < pass.level)
     (candidates (counted_positions m words pass P H))
 
 -- a candidate that is chosen gets exactly the level as its value
 abbrev pub ChosenGetLevel : Type 0
-ChosenGetLevel = (m : Minima) (words : List Word) (pass : Pass) (P : Patterns) (H : Hopeless)
+ChosenGetLevel = (m : Alphabet) (words : List Word) (pass : Pass) (P : Patterns) (H : Hopeless)
     → 1 ≤ pass.level
     → All (λ u. value_of (raise P (u, pass.dot) pass.level) (u, pass.dot) ≡ pass.level)
     (candidates (counted_positions m words pass P H))
@@ -109,7 +116,7 @@ RaisesWhereItApplies = (P : Patterns) (k : List ℕ × ℕ) (v : ℕ) (w : List 
 -- a window that is given up changes no value, no status and no totals
 abbrev pub GivenUpKeepsValues : Type 0
 GivenUpKeepsValues = (m : Meaning) (u : List ℕ) (tidy : Bool)
-    (minima : Minima) (words : List Word) (w : Word) (p : ℕ)
+    (minima : Alphabet) (words : List Word) (w : Word) (p : ℕ)
     → (value_at (after_give_up m u tidy).patterns w.signs p ≡ value_at m.patterns w.signs p)
     × (status_at (after_give_up m u tidy).patterns w p ≡ status_at m.patterns w p)
     × (totals minima words (after_give_up m u tidy).patterns ≡ totals minima words m.patterns)
@@ -172,13 +179,13 @@ CountedBack = (pass : Pass) (P P' : Patterns) (H H' : Hopeless) (w : Word) (p : 
     → counted_at pass P H w p ≡ Some good
 
 -- a pass counts nothing
-abbrev pub CountsNothing : Minima → List Word → Pass → Patterns → Hopeless → Type 0
+abbrev pub CountsNothing : Alphabet → List Word → Pass → Patterns → Hopeless → Type 0
 CountsNothing m words pass P H = counted_positions m words pass P H ≡ []
 
 -- a pass that counts nothing counts nothing later in the level
 abbrev pub CountsNothingLater : Type 0
 CountsNothingLater =
-    (m : Minima) (words : List Word) (pass : Pass) (P P' : Patterns) (H H' : Hopeless)
+    (m : Alphabet) (words : List Word) (pass : Pass) (P P' : Patterns) (H H' : Hopeless)
     → IsLater pass.level P H P' H' → CountsNothing m words pass P H
     → CountsNothing m words pass P' H'
 
@@ -198,7 +205,7 @@ CountedShorter = (pass : Pass) (P : Patterns) (H : Hopeless) (w : Word) (p : ℕ
 
 -- where a pass counts nothing, the two passes that are longer by a sign count nothing
 abbrev pub CountsNothingLonger : Type 0
-CountsNothingLonger = (m : Minima) (words : List Word) (pass : Pass) (P : Patterns) (H : Hopeless)
+CountsNothingLonger = (m : Alphabet) (words : List Word) (pass : Pass) (P : Patterns) (H : Hopeless)
     → CountsNothing m words pass P H
     → CountsNothing m words (longer_behind pass) P H
     × CountsNothing m words (longer_before pass) P H
@@ -218,7 +225,7 @@ LaterAfterPass = (level dot : ℕ) (P : Patterns) (H : Hopeless) (raised hopeles
 
 -- a pass whose candidates are all covered later counts nothing then
 abbrev pub CountsNothingWhenCovered : Type 0
-CountsNothingWhenCovered = (m : Minima) (words : List Word)
+CountsNothingWhenCovered = (m : Alphabet) (words : List Word)
     (pass : Pass) (P P' : Patterns) (H H' : Hopeless)
     → IsLater pass.level P H P' H'
     → list_all (λ u. is_covered pass.level P' H' u pass.dot)
@@ -227,7 +234,7 @@ CountsNothingWhenCovered = (m : Minima) (words : List Word)
 
 -- a pass that left no candidate counts nothing from its end on
 abbrev pub CountsNothingAtEnd : Type 0
-CountsNothingAtEnd = (m : Minima) (words : List Word) (pass : Pass) (P : Patterns) (H : Hopeless)
+CountsNothingAtEnd = (m : Alphabet) (words : List Word) (pass : Pass) (P : Patterns) (H : Hopeless)
     (raised hopeless : Candidate → Bool)
     → list_all (λ c. raised c || hopeless c) (with_sums (counted_positions m words pass P H)) ≡ true
     → CountsNothing m words pass

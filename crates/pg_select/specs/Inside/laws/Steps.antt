@@ -3,11 +3,13 @@
 use Rattle.std.specs.Prelude.{◌≡◌, ℕ, ◌+◌, nat_le, Bool, true, not, ◌&&◌, ◌||◌, List, length, filter, sum_by}
 use Rattle.std.specs.List.{list_all, list_any}
 use Rattle.pg_types.specs.declared.marks.Totals.{Totals}
+use Rattle.pg_translate.specs.Alphabets.{Alphabet}
 use Rattle.pg_dict.specs.Word.{Word}
 use Rattle.pg_patterns.specs.Values.{Patterns}
 use Rattle.pg_select.specs.Inside.laws.Laws.{raised_all, hopeless_all}
 use Rattle.pg_select.specs.declared.pass.Pass.{Pass}
-use Rattle.pg_select.specs.CountedPositions.{Minima, CountedPosition, Candidate, same_signs, good_of, bad_of, counted_positions, with_sums}
+use Rattle.pg_select.specs.CountedPositions.{Candidate}
+use Rattle.pg_select.specs.Inside.words.PositionLists.{CountedPosition, same_signs, good_of, bad_of, counted_positions, with_sums}
 use Rattle.pg_select.specs.Windows.{Hopeless}
 
 -- no value is as great as the level
@@ -33,13 +35,13 @@ is_candidate test counted u = list_any (λ s. same_signs u s.window) counted
     && test (candidate_at counted u)
 
 -- the patterns after a pass that raised the candidates which meet a test
-abbrev pub patterns_after_pass : Minima → List Word
+abbrev pub patterns_after_pass : Alphabet → List Word
     → Pass → Patterns → Hopeless → (Candidate → Bool) → Patterns
 patterns_after_pass m words pass P H raised = raised_all pass.level pass.dot P
     (filter raised (with_sums (counted_positions m words pass P H)))
 
 -- the hopeless dotted strings after a pass that made those candidates hopeless which meet a test
-abbrev pub hopeless_after_pass : Minima → List Word
+abbrev pub hopeless_after_pass : Alphabet → List Word
     → Pass → Patterns → Hopeless → (Candidate → Bool) → Hopeless
 hopeless_after_pass m words pass P H hopeless = hopeless_all pass.dot H
     (filter hopeless (with_sums (counted_positions m words pass P H)))

@@ -3,7 +3,8 @@ use Rattle.std.proofs.lemmas.Bool.{eq-eqb, ne_eqb}
 use Rattle.std.proofs.lemmas.List.{append-nil}
 use Rattle.std.proofs.lemmas.Result.{IfOk-from_err, on_ok_weaker}
 use Rattle.pg_types.specs.declared.marks.Totals.{Totals}
-use Rattle.pg_texts.specs.ReportTexts.{rate, rate_text, hundredths}
+use Rattle.pg_texts.specs.ReportTexts.{rate, rate_text}
+use Rattle.pg_texts.specs.Inside.ReportLines.{hundredths}
 use Rattle.pg_texts.proofs.Joins.{three_texts, appended}
 use Rattle.pg_texts.proofs.rates.push_rates.Goals as goal
 

@@ -6,8 +6,8 @@ use Rattle.pg_texts.proofs.word.push_position.Goals as goal
 pub returns : goal.returns
 returns c = grind (arith, common_steps)
 
-pub returns-in_err-extend_from_slice : goal.returns-in_err-extend_from_slice
-returns-in_err-extend_from_slice c = IfOk-from_err c.from_residual.result _ c.from_residual.ensures.0
-
 pub returns-in_err-push_mark : goal.returns-in_err-push_mark
-returns-in_err-push_mark c = IfOk-from_err c.from_residual-in_err-push_mark.result _ c.from_residual-in_err-push_mark.ensures.0
+returns-in_err-push_mark c = IfOk-from_err c.from_residual.result _ c.from_residual.ensures.0
+
+pub returns-in_err-push_weight : goal.returns-in_err-push_weight
+returns-in_err-push_weight c = IfOk-from_err c.from_residual-in_err-push_weight.result _ c.from_residual-in_err-push_weight.ensures.0

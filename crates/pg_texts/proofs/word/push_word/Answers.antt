@@ -13,8 +13,8 @@ positions-preserved c =
     (c.in_ok-push_position.ensures ∙ ap (λ mark. c.positions.text.items ++ position_text c.args.table.now (λ _. mark) (lent_word c.args.word) c.positions.p) c.status_at.ensures)
     c.positions.invariant
 
-pub returns-in_err-push_position : goal.returns-in_err-push_position
-returns-in_err-push_position c = IfOk-from_err c.from_residual.result _ c.from_residual.ensures.0
-
 pub returns-in_err-extend_from_slice : goal.returns-in_err-extend_from_slice
-returns-in_err-extend_from_slice c = IfOk-from_err c.from_residual-in_err-extend_from_slice.result _ c.from_residual-in_err-extend_from_slice.ensures.0
+returns-in_err-extend_from_slice c = IfOk-from_err c.from_residual.result _ c.from_residual.ensures.0
+
+pub returns-in_err-push_position : goal.returns-in_err-push_position
+returns-in_err-push_position c = IfOk-from_err c.from_residual-in_err-push_position.result _ c.from_residual-in_err-push_position.ensures.0

@@ -3,7 +3,7 @@ use Rattle.std.specs.List.{flat_map}
 use Rattle.pg_dict.specs.Inside.Store.{all_signs}
 use Rattle.pg_dots.specs.Inside.Dots.{is_closed, position_count}
 use Rattle.pg_types.specs.Inside.counting.Counts.{Counts}
-use Rattle.pg_select.specs.CountedPositions.{CountedPosition}
+use Rattle.pg_select.specs.Inside.words.PositionLists.{CountedPosition}
 use Rattle.pg_select.specs.Inside.engine.Meanings.{with_position}
 use Rattle.pg_starts.specs.Inside.Known.{AreKnown}
 use Rattle.pg_starts.specs.Inside.StartCountings.{AreCounting, counts_in}
@@ -13,7 +13,6 @@ use Rattle.pg_driver.specs.Inside.counting.LevelCounting.{AreNumbersIn, IsOpenAt
 use Rattle.pg_driver.specs.Inside.counting.OpenPositions.{counted_of}
 use Rattle.pg_driver.specs.Inside.counting.OpenSigns.{open_word_positions, sign_count}
 use Rattle.pg_driver.specs.Inside.records.RunAccounts.{known_of}
-use Rattle.pg_driver.specs.Traces.{source_of}
 use Rattle.pg_driver.proofs.ReadySteps.{counts_all, has_room, is_small, ready_same}
 use Rattle.pg_driver.proofs.StartSteps.{known_in, len_in, numbers_same}
 use Rattle.pg_driver.proofs.counting.WayToCount.count.Goals as goal
@@ -37,11 +36,12 @@ pub count_open-requires-clause-numbers : goal.count_open-requires-clause-numbers
 count_open-requires-clause-numbers g c =
     let m = g.E.Engine.meaning c.args.engine.now in
     let words = c.args.dictionary.now in
-    let source = source_of c.args.table.now words in
+    let T = c.args.table.now in
+    let W = words in
     let pass = c.args.pass in
     let o = c.in-Open.open in
     let p : OpenLevel = record { dots = c.reach.new.self; never = o.never; totals = o.totals } in
-    let ready : IsOpenAt source pass.level pass.len (known_of m) o = subst (IsReady source pass.level pass.len (known_of m)) c.in-Open.is c.requires.ready in
+    let ready : IsOpenAt T W pass.level pass.len (known_of m) o = subst (IsReady T W pass.level pass.len (known_of m)) c.in-Open.is c.requires.ready in
     let numbers : AreNumbersFor words pass.len (λ d s. not (is_closed o.dots d s)) c.args.windows.now.counts.numbers =
     subst (AreNumbersIn words pass.len c.args.windows.now.counts.numbers) c.in-Open.is c.requires.numbers in
     let numbers_now : AreNumbersFor words pass.len (λ d s. not (is_closed c.reach.new.self d s)) c.args.windows.now.counts.numbers =
@@ -53,47 +53,51 @@ pub count_open-requires-clause-room : goal.count_open-requires-clause-room
 count_open-requires-clause-room g c =
     let m = g.E.Engine.meaning c.args.engine.now in
     let words = c.args.dictionary.now in
-    let source = source_of c.args.table.now words in
+    let T = c.args.table.now in
+    let W = words in
     let pass = c.args.pass in
     let o = c.in-Open.open in
     let p : OpenLevel = record { dots = c.reach.new.self; never = o.never; totals = o.totals } in
-    let ready : IsOpenAt source pass.level pass.len (known_of m) o = subst (IsReady source pass.level pass.len (known_of m)) c.in-Open.is c.requires.ready in
-    let now : IsOpenAt source pass.level pass.len (known_of m) p = ready_same source pass.level pass.len
+    let ready : IsOpenAt T W pass.level pass.len (known_of m) o = subst (IsReady T W pass.level pass.len (known_of m)) c.in-Open.is c.requires.ready in
+    let now : IsOpenAt T W pass.level pass.len (known_of m) p = ready_same T W pass.level pass.len
     (known_of m) o ready p c.in_ok-reach-in-Open.ensures.positions c.in_ok-reach-in-Open.ensures.closed refl refl in
     let fresh : counts_in (all_signs words) c.begin.new.self ≡ [] = subst (λ (xs : List ℕ). counts_in xs c.begin.new.self ≡ []) c.all_signs.ensures c.in_ok-begin.ensures.none in
-    has_room source pass.level pass.len (known_of m) p now (counts_in (all_signs words) c.begin.new.self) pass.dot fresh c.requires.begun.ranges.len_high c.requires.begun.ranges.within
+    has_room T W pass.level pass.len (known_of m) p now (counts_in (all_signs words) c.begin.new.self) pass.dot fresh c.requires.begun.ranges.len_high c.requires.begun.ranges.within
 
 pub count_open-requires-clause-words : goal.count_open-requires-clause-words
 count_open-requires-clause-words g c =
     let m = g.E.Engine.meaning c.args.engine.now in
     let words = c.args.dictionary.now in
-    let source = source_of c.args.table.now words in
+    let T = c.args.table.now in
+    let W = words in
     let pass = c.args.pass in
     let o = c.in-Open.open in
     let p : OpenLevel = record { dots = c.reach.new.self; never = o.never; totals = o.totals } in
-    let ready : IsOpenAt source pass.level pass.len (known_of m) o = subst (IsReady source pass.level pass.len (known_of m)) c.in-Open.is c.requires.ready in
+    let ready : IsOpenAt T W pass.level pass.len (known_of m) o = subst (IsReady T W pass.level pass.len (known_of m)) c.in-Open.is c.requires.ready in
     ready.bounded.few.each
 
 pub count_open-requires-clause-letters : goal.count_open-requires-clause-letters
 count_open-requires-clause-letters g c =
     let m = g.E.Engine.meaning c.args.engine.now in
     let words = c.args.dictionary.now in
-    let source = source_of c.args.table.now words in
+    let T = c.args.table.now in
+    let W = words in
     let pass = c.args.pass in
     let o = c.in-Open.open in
     let p : OpenLevel = record { dots = c.reach.new.self; never = o.never; totals = o.totals } in
-    let ready : IsOpenAt source pass.level pass.len (known_of m) o = subst (IsReady source pass.level pass.len (known_of m)) c.in-Open.is c.requires.ready in
+    let ready : IsOpenAt T W pass.level pass.len (known_of m) o = subst (IsReady T W pass.level pass.len (known_of m)) c.in-Open.is c.requires.ready in
     ready.bounded.few.letters
 
 pub count_open-requires-clause-size : goal.count_open-requires-clause-size
 count_open-requires-clause-size g c =
     let m = g.E.Engine.meaning c.args.engine.now in
     let words = c.args.dictionary.now in
-    let source = source_of c.args.table.now words in
+    let T = c.args.table.now in
+    let W = words in
     let pass = c.args.pass in
     let o = c.in-Open.open in
     let p : OpenLevel = record { dots = c.reach.new.self; never = o.never; totals = o.totals } in
-    let ready : IsOpenAt source pass.level pass.len (known_of m) o = subst (IsReady source pass.level pass.len (known_of m)) c.in-Open.is c.requires.ready in
+    let ready : IsOpenAt T W pass.level pass.len (known_of m) o = subst (IsReady T W pass.level pass.len (known_of m)) c.in-Open.is c.requires.ready in
     subst (λ (n : ℕ). sign_count words ≤ n) (sym c.in_ok-reach-in-Open.ensures.positions) ready.size
 
 pub count_open-requires-clause-reached : goal.count_open-requires-clause-reached
@@ -103,12 +107,13 @@ pub returns-in_ok-reach-in-Open-clause-did : goal.returns-in_ok-reach-in-Open-cl
 returns-in_ok-reach-in-Open-clause-did g c =
     let m = g.E.Engine.meaning c.args.engine.now in
     let words = c.args.dictionary.now in
-    let source = source_of c.args.table.now words in
+    let T = c.args.table.now in
+    let W = words in
     let pass = c.args.pass in
     let o = c.in-Open.open in
     let p : OpenLevel = record { dots = c.reach.new.self; never = o.never; totals = o.totals } in
-    let ready : IsOpenAt source pass.level pass.len (known_of m) o = subst (IsReady source pass.level pass.len (known_of m)) c.in-Open.is c.requires.ready in
-    let now : IsOpenAt source pass.level pass.len (known_of m) p = ready_same source pass.level pass.len
+    let ready : IsOpenAt T W pass.level pass.len (known_of m) o = subst (IsReady T W pass.level pass.len (known_of m)) c.in-Open.is c.requires.ready in
+    let now : IsOpenAt T W pass.level pass.len (known_of m) p = ready_same T W pass.level pass.len
     (known_of m) o ready p c.in_ok-reach-in-Open.ensures.positions c.in_ok-reach-in-Open.ensures.closed refl refl in
     let fresh : counts_in (all_signs words) c.begin.new.self ≡ [] = subst (λ (xs : List ℕ). counts_in xs c.begin.new.self ≡ []) c.all_signs.ensures c.in_ok-begin.ensures.none in
     record {
@@ -116,22 +121,23 @@ returns-in_ok-reach-in-Open-clause-did g c =
           c.count_open.ensures.counts
           ∙ ap (λ (cs : Counts). fold with_position cs (flat_map (counted_of pass words) (open_word_positions (is_closed c.reach.new.self pass.dot) words))) fresh
           ∙ ap (λ (seen : List CountedPosition). fold with_position [] seen)
-          (counts_all source pass.level pass.len (known_of m) p now pass.dot c.requires.begun.ranges.len_high c.requires.begun.ranges.within);
+          (counts_all T W pass.level pass.len (known_of m) p now pass.dot c.requires.begun.ranges.len_high c.requires.begun.ranges.within);
       room = c.count_open.ensures.room;
       totals = ready.totals;
-      small = is_small source pass.level pass.len (known_of m) o ready;
+      small = is_small T W pass.level pass.len (known_of m) o ready;
     }
 
 pub returns-in_ok-reach-in-Open-clause-ready : goal.returns-in_ok-reach-in-Open-clause-ready
 returns-in_ok-reach-in-Open-clause-ready g c =
     let m = g.E.Engine.meaning c.args.engine.now in
     let words = c.args.dictionary.now in
-    let source = source_of c.args.table.now words in
+    let T = c.args.table.now in
+    let W = words in
     let pass = c.args.pass in
     let o = c.in-Open.open in
     let p : OpenLevel = record { dots = c.reach.new.self; never = o.never; totals = o.totals } in
-    let ready : IsOpenAt source pass.level pass.len (known_of m) o = subst (IsReady source pass.level pass.len (known_of m)) c.in-Open.is c.requires.ready in
-    ready_same source pass.level pass.len (known_of m) o ready p c.in_ok-reach-in-Open.ensures.positions c.in_ok-reach-in-Open.ensures.closed refl refl
+    let ready : IsOpenAt T W pass.level pass.len (known_of m) o = subst (IsReady T W pass.level pass.len (known_of m)) c.in-Open.is c.requires.ready in
+    ready_same T W pass.level pass.len (known_of m) o ready p c.in_ok-reach-in-Open.ensures.positions c.in_ok-reach-in-Open.ensures.closed refl refl
 
 pub returns-in_ok-reach-in-Open-clause-counted : goal.returns-in_ok-reach-in-Open-clause-counted
 returns-in_ok-reach-in-Open-clause-counted g c = tt
@@ -143,11 +149,12 @@ pub returns-in_ok-reach-in-Open-clause-numbers : goal.returns-in_ok-reach-in-Ope
 returns-in_ok-reach-in-Open-clause-numbers g c =
     let m = g.E.Engine.meaning c.args.engine.now in
     let words = c.args.dictionary.now in
-    let source = source_of c.args.table.now words in
+    let T = c.args.table.now in
+    let W = words in
     let pass = c.args.pass in
     let o = c.in-Open.open in
     let p : OpenLevel = record { dots = c.reach.new.self; never = o.never; totals = o.totals } in
-    let ready : IsOpenAt source pass.level pass.len (known_of m) o = subst (IsReady source pass.level pass.len (known_of m)) c.in-Open.is c.requires.ready in
+    let ready : IsOpenAt T W pass.level pass.len (known_of m) o = subst (IsReady T W pass.level pass.len (known_of m)) c.in-Open.is c.requires.ready in
     let numbers : AreNumbersFor words pass.len (λ d s. not (is_closed o.dots d s)) c.args.windows.now.counts.numbers =
     subst (AreNumbersIn words pass.len c.args.windows.now.counts.numbers) c.in-Open.is c.requires.numbers in
     let numbers_now : AreNumbersFor words pass.len (λ d s. not (is_closed c.reach.new.self d s)) c.args.windows.now.counts.numbers =
@@ -175,4 +182,4 @@ count_each_word-requires-clause-begun g c = c.requires.begun
 
 pub count_each_word-requires-clause-ready : goal.count_each_word-requires-clause-ready
 count_each_word-requires-clause-ready g c =
-    subst (IsReady (source_of c.args.table.now c.args.dictionary.now) c.args.pass.level c.args.pass.len (known_of (g.E.Engine.meaning c.args.engine.now))) c.in-EachWord.is c.requires.ready
+    subst (IsReady c.args.table.now c.args.dictionary.now c.args.pass.level c.args.pass.len (known_of (g.E.Engine.meaning c.args.engine.now))) c.in-EachWord.is c.requires.ready

@@ -8,10 +8,8 @@ use Rattle.pg_types.specs.declared.marks.Totals.{Totals}
 use Rattle.pg_dots.specs.Inside.Dots.{is_closed, position_count}
 use Rattle.pg_dots.specs.Inside.Positions.{is_among}
 use Rattle.pg_dict.specs.Inside.LentWords.{lent_word}
-use Rattle.pg_select.specs.CountedPositions.{minima_of}
 use Rattle.pg_dict.specs.Word.{Word}
-use Rattle.pg_select.specs.Sums.{marks_in}
-use Rattle.pg_select.specs.Inside.SumSteps.{with_marks, sum_of}
+use Rattle.pg_select.specs.Inside.SumSteps.{marks_in, with_marks, sum_of}
 use Rattle.pg_select.proofs.MarkSteps.{marks_none, marks_word, marks_zero}
 use Rattle.pg_driver.specs.Inside.counting.OpenSigns.{is_open_first, start_of, takes_part}
 use Rattle.pg_driver.proofs.OpenFirst.{cares_in, counts_in, opens_before, opens_behind}
@@ -32,7 +30,7 @@ all_true false = refl
 pub words-preserved : goal.words-preserved
 words-preserved g c =
     let P = (g.E.Engine.meaning c.args.engine.now).patterns in
-    let minima = minima_of c.args.table.now in
+    let minima = c.args.table.now in
     let words = c.args.dictionary.now in
     let w = lent_word c.word-w.result in
     let lent = c.word-w.ensures.lent in
@@ -108,7 +106,7 @@ pub words-init : goal.words-init
 words-init g c =
     let all = ap (λ (xs : List ℕ). length xs) c.all_signs-signs.ensures in
     let few = signs_few c.args.dictionary.now c.len-count.ensures.words in
-    let marks : List (Mark × ℕ) = flat_map (marks_in (minima_of c.args.table.now) (g.E.Engine.meaning c.args.engine.now).patterns) c.args.dictionary.now in
+    let marks : List (Mark × ℕ) = flat_map (marks_in c.args.table.now (g.E.Engine.meaning c.args.engine.now).patterns) c.args.dictionary.now in
     record {
       size = omega (arith, c.in_ok-dots.ensures.size);
       few = omega (arith, c.in_ok-dots.ensures.few, c.len-count.ensures.letters);
@@ -141,7 +139,7 @@ overflow_add-before g c =
 pub returns-clause-bounded : goal.returns-clause-bounded
 returns-clause-bounded g c = record {
   few = record { each = c.len-count.ensures.words; letters = c.len-count.ensures.letters };
-  reached = all_reached (minima_of c.args.table.now) c.args.dictionary.now c.words.i (omega (arith, c.words-test.false, c.len-count.ensures.len)) c.words.invariant.reached;
+  reached = all_reached c.args.table.now c.args.dictionary.now c.words.i (omega (arith, c.words-test.false, c.len-count.ensures.len)) c.words.invariant.reached;
 }
 
 pub open_word-requires-clause-set_size : goal.open_word-requires-clause-set_size
@@ -178,4 +176,4 @@ returns-clause-totals g c =
     let P = (g.E.Engine.meaning c.args.engine.now).patterns in
     let t = c.words.opened.totals in
     let none : drop c.words.i c.args.dictionary.now ≡ [] = drop_all c.words.i c.args.dictionary.now (omega (arith, c.words-test.false, c.len-count.ensures.len)) in
-    sym (marks_none t) ∙ ap (λ (ws : List Word). with_marks t (flat_map (marks_in (minima_of c.args.table.now) P) ws)) (sym none) ∙ c.words.invariant.sums
+    sym (marks_none t) ∙ ap (λ (ws : List Word). with_marks t (flat_map (marks_in c.args.table.now P) ws)) (sym none) ∙ c.words.invariant.sums

@@ -2,12 +2,11 @@ use Rattle.std.proofs.Common.{◌≡◌, ℕ, ◌≤◌, ◌<◌, ◌+◌, true,
 use Rattle.pg_types.specs.Inside.Limits.{positions_limit}
 use Rattle.pg_dots.specs.Inside.Dots.{is_closed, position_count}
 use Rattle.pg_dots.specs.Inside.Positions.{is_among, positions_room}
-use Rattle.pg_select.specs.CountedPositions.{minima_of}
 use Rattle.std.specs.List.{flat_map, sum_by}
 use Rattle.pg_dict.specs.Word.{Word}
 use Rattle.pg_dict.specs.Inside.SoundWords.{letter_count}
-use Rattle.pg_select.specs.Sums.{marks_in, totals}
-use Rattle.pg_select.specs.Inside.SumSteps.{with_marks, HasRoomFor}
+use Rattle.pg_select.specs.Sums.{totals}
+use Rattle.pg_select.specs.Inside.SumSteps.{marks_in, with_marks, HasRoomFor}
 use Rattle.pg_driver.specs.Inside.counting.OpenSigns.{is_open_first, sign_count, start_of, takes_part}
 use Rattle.pg_driver.proofs.WordSteps.{AreReached}
 use Rattle.pg_driver.proofs.counting.open_positions.open_level.Given as goal
@@ -15,7 +14,7 @@ use Rattle.pg_driver.proofs.counting.open_positions.open_level.Given as goal
 abbrev pub invariant-words : goal.invariant-words
 invariant-words g l =
     let P = (g.E.Engine.meaning l.engine).patterns in
-    let minima = minima_of l.table in
+    let minima = l.table in
     record {
       size : sign_count l.dictionary ≤ position_count l.opened.dots;
       few : position_count l.opened.dots < positions_limit;

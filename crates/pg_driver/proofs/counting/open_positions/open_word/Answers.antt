@@ -6,7 +6,7 @@ use Rattle.pg_dict.specs.Inside.SoundWords.{letter_count}
 use Rattle.pg_dict.specs.Inside.LentWords.{lent_word}
 use Rattle.pg_dots.specs.Inside.Dots.{is_closed}
 use Rattle.pg_dots.specs.Inside.Positions.{is_among}
-use Rattle.pg_select.specs.CountedPositions.{counts_as, minima_of}
+use Rattle.pg_select.specs.CountedPositions.{counts_as}
 use Rattle.pg_select.specs.Statuses.{status, status_at, position_weight}
 use Rattle.pg_select.specs.Inside.SumSteps.{with_mark, with_marks, sum_of}
 use Rattle.pg_patterns.specs.Values.{value_at}
@@ -21,7 +21,7 @@ pub positions-preserved : goal.positions-preserved
 positions-preserved g c =
     let P = (g.E.Engine.meaning c.args.engine.now).patterns in
     let w = lent_word c.args.w.now in
-    let m = minima_of c.args.table.now in
+    let m = c.args.table.now in
     let p = c.positions.p in
     let before = c.positions.opened in
     let within : p < length w.signs = omega (arith, c.positions-test.true, c.in-Some.ensures.within) in
@@ -59,7 +59,7 @@ pub positions-init : goal.positions-init
 positions-init g c =
     let P = (g.E.Engine.meaning c.args.engine.now).patterns in
     let w = lent_word c.args.w.now in
-    let m = minima_of c.args.table.now in
+    let m = c.args.table.now in
     let none : c.in-Some.first - c.in-Some.first ≡ 0 = omega arith in
     record {
       size = refl;
@@ -80,7 +80,7 @@ pub returns-clause-closed : goal.returns-clause-closed
 returns-clause-closed g c = λ d s low.
     let P = (g.E.Engine.meaning c.args.engine.now).patterns in
     let w = lent_word c.args.w.now in
-    let m = minima_of c.args.table.now in
+    let m = c.args.table.now in
     c.positions.invariant.dots d s low
     ∙ opens_last m w (counts_in c.args.level P w) c.in-Some.first c.in-Some.end c.in-Some.ensures.some c.args.before c.positions.p s (is_closed c.args.opened.now.dots d s)
     (omega (arith, c.positions.auto)) (omega (arith, c.positions-test.false))
@@ -88,7 +88,7 @@ returns-clause-closed g c = λ d s low.
 pub returns-clause-never : goal.returns-clause-never
 returns-clause-never g c = λ s low.
     let w = lent_word c.args.w.now in
-    let m = minima_of c.args.table.now in
+    let m = c.args.table.now in
     c.positions.invariant.never s low
     ∙ opens_last m w (cares_in w) c.in-Some.first c.in-Some.end c.in-Some.ensures.some c.args.before c.positions.p s (is_among c.args.opened.now.never s)
     (omega (arith, c.positions.auto)) (omega (arith, c.positions-test.false))

@@ -8,7 +8,7 @@ use Rattle.pg_select.specs.Inside.engine.Meanings.{with_position}
 use Rattle.pg_starts.specs.declared.start_numbers.StartNumbers.{StartNumbers}
 use Rattle.pg_starts.specs.Inside.Known.{windows_of}
 use Rattle.pg_starts.specs.Inside.StartCountings.{counts_in, windows_in}
-use Rattle.pg_select.specs.CountedPositions.{counted_positions_at, minima_of}
+use Rattle.pg_select.specs.Inside.words.PositionLists.{counted_positions_at}
 use Rattle.pg_driver.specs.declared.pass_windows.WordPosition.{WordPosition}
 use Rattle.pg_driver.specs.Inside.counting.OpenLevels.{listed_in, open_as}
 use Rattle.pg_driver.specs.Inside.level.PassWindows.{HaveNumbers, uncovered_at}
@@ -73,7 +73,7 @@ positions-preserved g c =
       took_for = omega (arith, c.positions.invariant.took_for);
       listed = c.positions.invariant.listed ++ f c.positions.p;
       upto = position_added f c.positions.invariant.listed (c.positions.invariant.listed ++ f c.positions.p)
-          (listed_in (minima_of c.args.table.now) (counts_above c.args.pass.level m0.patterns) c.args.word w) c.positions.p c.in-Some.end c.positions-test.true refl c.positions.invariant.upto;
+          (listed_in c.args.table.now (counts_above c.args.pass.level m0.patterns) c.args.word w) c.positions.p c.in-Some.end c.positions-test.true refl c.positions.invariant.upto;
       numbers = λ words entries at before.
           let same : c.count_position.new.counts.numbers ≡ c.args.counts.now.numbers = c.count_position.ensures.kept ∙ c.positions.invariant.kept in
           let now : HaveNumbers pass (uncovered_at pass m0.patterns m0.hopeless) words (windows_in signs c.count_position.new.counts) (entries ++ c.positions.invariant.listed) c.positions.numbers.items =
@@ -91,13 +91,13 @@ returns-in_ok-list_above-clause-above g c =
     let P = (g.E.Engine.meaning c.args.engine.now).patterns in
     let w = lent_word c.args.w.now in
     c.in_ok-list_above.ensures P c.hyphenate.ensures.values
-    ∙ ap (λ (lists : Bool). c.args.above.now.items ++ listed_in (minima_of c.args.table.now) (listing lists c.args.pass.level P) c.args.word w) (sym c.if-lists.true)
+    ∙ ap (λ (lists : Bool). c.args.above.now.items ++ listed_in c.args.table.now (listing lists c.args.pass.level P) c.args.word w) (sym c.if-lists.true)
 
 pub returns-else-lists-clause-above : goal.returns-else-lists-clause-above
 returns-else-lists-clause-above g c =
     let P = (g.E.Engine.meaning c.args.engine.now).patterns in
     let w = lent_word c.args.w.now in
-    let minima = minima_of c.args.table.now in
+    let minima = c.args.table.now in
     sym (append-nil c.args.above.now.items)
     ∙ ap (λ (es : List WordPosition). c.args.above.now.items ++ es) (sym (none_listed_in minima c.args.pass.level P c.args.word w))
     ∙ ap (λ (lists : Bool). c.args.above.now.items ++ listed_in minima (listing lists c.args.pass.level P) c.args.word w) (sym c.if-lists.false)
@@ -120,11 +120,11 @@ returns-in_ok-list_above-clause-numbers g c = λ words entries at before.
     let w = lent_word c.args.w.now in
     let signs = all_signs c.args.dictionary.now in
     let f : ℕ → List WordPosition = λ q. open_as c.args.word q (counts_above pass.level m0.patterns w q) in
-    let all = listed_done f c.positions.invariant.listed (listed_in (minima_of c.args.table.now) (counts_above pass.level m0.patterns) c.args.word w)
+    let all = listed_done f c.positions.invariant.listed (listed_in c.args.table.now (counts_above pass.level m0.patterns) c.args.word w)
     c.positions.p c.in-Some.end c.positions-test.false c.positions.invariant.upto in
     let same : c.positions.counts.numbers ≡ c.args.counts.now.numbers = c.positions.invariant.kept in
     subst (λ (n : StartNumbers). HaveNumbers pass (uncovered_at pass m0.patterns m0.hopeless) words (windows_of signs n)
-    (entries ++ listed_in (minima_of c.args.table.now) (counts_above pass.level m0.patterns) c.args.word w) c.positions.numbers.items) (sym same)
+    (entries ++ listed_in c.args.table.now (counts_above pass.level m0.patterns) c.args.word w) c.positions.numbers.items) (sym same)
     (subst (λ (es : List WordPosition). HaveNumbers pass (uncovered_at pass m0.patterns m0.hopeless) words (windows_of signs c.args.counts.now.numbers) (entries ++ es) c.positions.numbers.items) all
     (c.positions.invariant.numbers words entries at (subst (λ (n : StartNumbers). HaveNumbers pass (uncovered_at pass m0.patterns m0.hopeless) words (windows_of signs n) entries c.args.numbers.now.items) same before)))
 
@@ -154,11 +154,11 @@ returns-else-lists-clause-numbers g c = λ words entries at before.
     let w = lent_word c.args.w.now in
     let signs = all_signs c.args.dictionary.now in
     let f : ℕ → List WordPosition = λ q. open_as c.args.word q (counts_above pass.level m0.patterns w q) in
-    let all = listed_done f c.positions.invariant.listed (listed_in (minima_of c.args.table.now) (counts_above pass.level m0.patterns) c.args.word w)
+    let all = listed_done f c.positions.invariant.listed (listed_in c.args.table.now (counts_above pass.level m0.patterns) c.args.word w)
     c.positions.p c.in-Some.end c.positions-test.false c.positions.invariant.upto in
     let same : c.positions.counts.numbers ≡ c.args.counts.now.numbers = c.positions.invariant.kept in
     subst (λ (n : StartNumbers). HaveNumbers pass (uncovered_at pass m0.patterns m0.hopeless) words (windows_of signs n)
-    (entries ++ listed_in (minima_of c.args.table.now) (counts_above pass.level m0.patterns) c.args.word w) c.positions.numbers.items) (sym same)
+    (entries ++ listed_in c.args.table.now (counts_above pass.level m0.patterns) c.args.word w) c.positions.numbers.items) (sym same)
     (subst (λ (es : List WordPosition). HaveNumbers pass (uncovered_at pass m0.patterns m0.hopeless) words (windows_of signs c.args.counts.now.numbers) (entries ++ es) c.positions.numbers.items) all
     (c.positions.invariant.numbers words entries at (subst (λ (n : StartNumbers). HaveNumbers pass (uncovered_at pass m0.patterns m0.hopeless) words (windows_of signs n) entries c.args.numbers.now.items) same before)))
 

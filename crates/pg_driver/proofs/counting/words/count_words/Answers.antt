@@ -11,10 +11,9 @@ use Rattle.pg_select.specs.Inside.engine.Meanings.{with_position}
 use Rattle.pg_starts.specs.declared.start_numbers.StartNumbers.{StartNumbers}
 use Rattle.pg_starts.specs.Inside.Known.{windows_of}
 use Rattle.pg_starts.specs.Inside.StartCountings.{counts_in, windows_in}
-use Rattle.pg_select.specs.CountedPositions.{counted_positions, minima_of}
+use Rattle.pg_select.specs.Inside.words.PositionLists.{counted_positions}
 use Rattle.pg_select.specs.Inside.words.WordCounts.{counted_positions_in}
-use Rattle.pg_select.specs.Sums.{marks_in}
-use Rattle.pg_select.specs.Inside.SumSteps.{with_marks, sum_of}
+use Rattle.pg_select.specs.Inside.SumSteps.{marks_in, with_marks, sum_of}
 use Rattle.pg_driver.specs.Inside.counting.Counting.{AreNumbersFor, HasRoom}
 use Rattle.pg_select.proofs.MarkSteps.{marks_none, marks_word, marks_zero}
 use Rattle.pg_driver.specs.Inside.counting.OpenLevels.{listed_from, listed_in}
@@ -75,11 +74,11 @@ words-init g c =
       kept = refl;
       counting = c.requires.counting;
       before = start_zero c.args.dictionary.now;
-      whole = ap (λ (cs : Counts). fold with_position cs (counted_positions (minima_of c.args.table.now) c.args.dictionary.now c.args.pass P H)) c.requires.fresh;
+      whole = ap (λ (cs : Counts). fold with_position cs (counted_positions c.args.table.now c.args.dictionary.now c.args.pass P H)) c.requires.fresh;
       room = subst (λ (cs : Counts). HasRoom cs (sum_by letter_count c.args.dictionary.now)) (sym c.requires.fresh)
           (room_none (sum_by letter_count c.args.dictionary.now) c.len-i-end.ensures.letters);
-      sums = ap (λ (t : Totals). with_marks t (flat_map (marks_in (minima_of c.args.table.now) P) c.args.dictionary.now)) c.no_totals-sums.ensures
-          ∙ marks_zero (flat_map (marks_in (minima_of c.args.table.now) P) c.args.dictionary.now);
+      sums = ap (λ (t : Totals). with_marks t (flat_map (marks_in c.args.table.now P) c.args.dictionary.now)) c.no_totals-sums.ensures
+          ∙ marks_zero (flat_map (marks_in c.args.table.now P) c.args.dictionary.now);
       above = refl;
       reached = omega arith;
       room_for = omega (arith, ap sum_of c.no_totals-sums.ensures, c.len-i-end.ensures.letters);
@@ -91,7 +90,7 @@ words-init g c =
 pub returns-clause-bounded : goal.returns-clause-bounded
 returns-clause-bounded g c = record {
   few = record { each = c.len-i-end.ensures.words; letters = c.len-i-end.ensures.letters };
-  reached = all_reached (minima_of c.args.table.now) c.args.dictionary.now c.words.i (omega (arith, c.words-test.false, c.len-i-end.ensures.len)) c.words.invariant.reached;
+  reached = all_reached c.args.table.now c.args.dictionary.now c.words.i (omega (arith, c.words-test.false, c.len-i-end.ensures.len)) c.words.invariant.reached;
 }
 
 pub words-preserved : goal.words-preserved
@@ -101,7 +100,7 @@ words-preserved g c =
     let cs : Counts = counts_in signs c.words.counts in
     let ds : Counts = counts_in signs c.count_word.new.counts in
     let pass = c.args.pass in
-    let minima = minima_of c.args.table.now in
+    let minima = c.args.table.now in
     let w = lent_word c.word-w.result in
     let rest = drop (c.words.i + 1) c.args.dictionary.now in
     let place = drop_place c.args.dictionary.now c.words.i w c.word-w.ensures.lent in
@@ -141,14 +140,14 @@ pub returns-clause-ok : goal.returns-clause-ok
 returns-clause-ok g c =
     let m0 = g.E.Engine.meaning c.args.engine.now in
     let none : drop c.words.i c.args.dictionary.now ≡ [] = drop_all c.words.i c.args.dictionary.now (omega (arith, c.words-test.false, c.len-i-end.ensures.len)) in
-    ap (λ (ws : List Word). fold with_position (counts_in (all_signs c.args.dictionary.now) c.words.counts) (counted_positions (minima_of c.args.table.now) ws c.args.pass m0.patterns m0.hopeless)) (sym none) ∙ c.words.invariant.whole
+    ap (λ (ws : List Word). fold with_position (counts_in (all_signs c.args.dictionary.now) c.words.counts) (counted_positions c.args.table.now ws c.args.pass m0.patterns m0.hopeless)) (sym none) ∙ c.words.invariant.whole
 
 pub returns-clause-above : goal.returns-clause-above
 returns-clause-above g c =
     let P = (g.E.Engine.meaning c.args.engine.now).patterns in
     let none : drop c.words.i c.args.dictionary.now ≡ [] = drop_all c.words.i c.args.dictionary.now (omega (arith, c.words-test.false, c.len-i-end.ensures.len)) in
     sym (append-nil c.words.above.items)
-    ∙ ap (λ (ws : List Word). c.words.above.items ++ listed_from (minima_of c.args.table.now) (listing c.args.lists c.args.pass.level P) c.words.i ws) (sym none)
+    ∙ ap (λ (ws : List Word). c.words.above.items ++ listed_from c.args.table.now (listing c.args.lists c.args.pass.level P) c.words.i ws) (sym none)
     ∙ c.words.invariant.above
 
 pub returns-clause-numbers : goal.returns-clause-numbers
@@ -157,9 +156,9 @@ returns-clause-numbers g c =
     let words = c.args.dictionary.now in
     let listed : List WordPosition = c.words.invariant.listed in
     let none : drop c.words.i words ≡ [] = drop_all c.words.i words (omega (arith, c.words-test.false, c.len-i-end.ensures.len)) in
-    let all : listed ≡ listed_from (minima_of c.args.table.now) (counts_above c.args.pass.level m0.patterns) 0 words =
+    let all : listed ≡ listed_from c.args.table.now (counts_above c.args.pass.level m0.patterns) 0 words =
     sym (append-nil listed)
-    ∙ ap (λ (ws : List Word). listed ++ listed_from (minima_of c.args.table.now) (counts_above c.args.pass.level m0.patterns) c.words.i ws) (sym none)
+    ∙ ap (λ (ws : List Word). listed ++ listed_from c.args.table.now (counts_above c.args.pass.level m0.patterns) c.words.i ws) (sym none)
     ∙ c.words.invariant.upto in
     subst (λ (es : List WordPosition). HaveNumbers c.args.pass (uncovered_at c.args.pass m0.patterns m0.hopeless) words (windows_in (all_signs words) c.words.counts) es c.words.numbers.items) all c.words.invariant.numbers
 
@@ -173,7 +172,7 @@ returns-clause-totals g c =
     let P = (g.E.Engine.meaning c.args.engine.now).patterns in
     let none : drop c.words.i c.args.dictionary.now ≡ [] = drop_all c.words.i c.args.dictionary.now (omega (arith, c.words-test.false, c.len-i-end.ensures.len)) in
     sym (marks_none c.words.sums)
-    ∙ ap (λ (ws : List Word). with_marks c.words.sums (flat_map (marks_in (minima_of c.args.table.now) P) ws)) (sym none)
+    ∙ ap (λ (ws : List Word). with_marks c.words.sums (flat_map (marks_in c.args.table.now P) ws)) (sym none)
     ∙ c.words.invariant.sums
 
 pub returns-clause-small : goal.returns-clause-small

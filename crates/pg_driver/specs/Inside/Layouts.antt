@@ -1,8 +1,8 @@
 -- Where the strings of a run lie in the cells of a trie, along its trace.
 use Rattle.std.specs.Prelude.{ℕ, List, map, filter, fold}
-use Rattle.pg_types.specs.Placement.{Families, enter, entered_families, kept_families}
+use Rattle.pg_types.specs.Placement.{Families, enter, kept_families}
 use Rattle.pg_patterns.specs.Values.{Patterns}
-use Rattle.pg_driver.specs.Traces.{PassTrace, LevelTrace, Trace, is_entered, patterns_after}
+use Rattle.pg_driver.specs.Traces.{PassTrace, LevelTrace, is_entered, patterns_after}
 
 -- the strings of patterns, in the order of signs
 abbrev pub strings_in : Patterns → List (List ℕ)
@@ -17,7 +17,3 @@ after_pass signs fs p =
 abbrev pub after_level : ℕ → Families → LevelTrace → Families
 after_level signs fs l =
     kept_families (strings_in (patterns_after l)) (fold (after_pass signs) fs l.passes)
-
--- the families at the end of a run from S, which begins with those of the strings of S
-abbrev pub families_at_end : ℕ → Patterns → Trace → Families
-families_at_end signs S run = fold (after_level signs) (entered_families signs (strings_in S)) run
