@@ -17,7 +17,7 @@ impl Model for Draws {
 
 impl Draws {
     ghost use Rattle.std.specs.Prelude.{◌≡◌, ◌<◌};
-    ghost use Rattle.pg_draws.specs.DrawnNumbers.{next_state, draw};
+    ghost use Rattle.pg_draws.specs.DrawnNumbers.{drawn};
 
     /// The draws from a seed.
     pub fn new(seed: u32) -> Draws
@@ -29,8 +29,8 @@ impl Draws {
     /// Draws the next number, below `most`.
     pub fn next_below(&mut self, most: usize) -> usize
         requires { 0 < most }
-        ensures state { self.new ≡ next_state self.old }
-        ensures drawn { result ≡ draw most self.new }
+        ensures state { self.new ≡ (drawn most self.old).1 }
+        ensures drawn { result ≡ (drawn most self.old).0 }
         ensures below { result < most }
     {
         self.state = ((1_103_515_245 * u64::from(self.state) + 12_345) % (1 << 31)) as u32;

@@ -1,4 +1,5 @@
 pub mod Finish
 pub mod PrunedLaws
 pub mod Told
+pub mod NeedForms
 pub mod NeedLaws

@@ -2,10 +2,9 @@
 ghost use Rattle.std.specs.Prelude.{◌≡◌, ◌+◌, ◌++◌, map, IfOk, OnOk};
 ghost use Rattle.pg_dict.specs.Inside.SoundWords.{IsWord};
 ghost use Rattle.pg_dict.specs.Inside.LentWords.{lent_word};
-ghost use Rattle.pg_select.specs.CountedPositions.{minima_of};
 ghost use Rattle.pg_prune.specs.Positions.{positions_in_reach as positions_of};
 ghost use Rattle.pg_prune.specs.Inside.positions.WordPositions.{positions_in};
-ghost use Rattle.pg_prune.specs.Prunes.{need_at};
+ghost use Rattle.pg_prune.specs.Inside.positions.PositionInReach.{need_at};
 
 pub mod gather;
 mod trail;
@@ -26,7 +25,7 @@ fn add_word(
     requires { IsWord (lent_word w.now) }
     ensures { OnOk result (all.new.items
         ≡ all.old.items ++ map need_at
-        (positions_in (minima_of table.now) word (lent_word w.now))) }
+        (positions_in table.now word (lent_word w.now))) }
 {
     let Some((first, end)) = positions(table, w) else {
         return Ok(());
@@ -45,7 +44,7 @@ pub(crate) fn positions_in_reach(
     table: &Table,
 ) -> Result<Vec<Need>, AllocError>
     ensures { IfOk result
-        (λ all. all.items ≡ map need_at (positions_of (minima_of table.now) dictionary.now)) }
+        (λ all. all.items ≡ map need_at (positions_of table.now dictionary.now)) }
 {
     let mut all = Vec::new(alloc);
     'words: for i in 0..dictionary.len() {

@@ -1,11 +1,11 @@
 //! The call that prunes.
 ghost use Rattle.std.specs.Prelude.{◌≡◌, ◌+◌, List, map, IfOk};
-ghost use Rattle.pg_translate.specs.Alphabets.{letters_of};
+ghost use Rattle.pg_translate.specs.Alphabets.{Alphabet, letters_of};
 ghost use Rattle.pg_patterns.specs.Inside.PatternMaps.{SignsUpTo};
 ghost use Rattle.pg_dict.specs.Word.{Word};
-ghost use Rattle.pg_select.specs.CountedPositions.{Minima, minima_of};
 ghost use Rattle.pg_prune.specs.Positions.{positions_in_reach as positions_of};
-ghost use Rattle.pg_prune.specs.Prunes.{need_at, pruning_of};
+ghost use Rattle.pg_prune.specs.Prunes.{pruning_of};
+ghost use Rattle.pg_prune.specs.Inside.positions.PositionInReach.{need_at};
 ghost use Rattle.pg_prune.specs.Inside.rounds.Picks.{HasAllEntries};
 ghost use Rattle.pg_prune.specs.Inside.Prunings.{IsPruning};
 
@@ -36,7 +36,7 @@ pub fn prune(
 ) -> Result<Pruned, AllocError>
     requires known { SignsUpTo (letters_of table.now + 1) patterns.now }
     ensures { let n = letters_of table.now + 1 in IfOk result
-        (IsPruning (minima_of table.now) n dictionary.now patterns.now) }
+        (IsPruning table.now n dictionary.now patterns.now) }
 {
     prune_watched(alloc, dictionary, table, patterns, &NoObserver)
 }
@@ -51,7 +51,7 @@ pub fn prune_watched<W: RoundObserver>(
 ) -> Result<Pruned, AllocError>
     requires known { SignsUpTo (letters_of table.now + 1) patterns.now }
     ensures { let n = letters_of table.now + 1 in IfOk result
-        (IsPruning (minima_of table.now) n dictionary.now patterns.now) }
+        (IsPruning table.now n dictionary.now patterns.now) }
 {
     find(alloc, dictionary, table, patterns, watch)
 }
@@ -65,7 +65,7 @@ fn find<W: RoundObserver>(
     watch: &W,
 ) -> Result<Pruned, AllocError>
     ensures { IfOk result
-        (λ found. found ≡ pruning_of (minima_of table.now) dictionary.now patterns.now) }
+        (λ found. found ≡ pruning_of table.now dictionary.now patterns.now) }
 {
     let positions = positions_in_reach(alloc, dictionary, table)?;
     let lists = gather(alloc, dictionary, table, patterns)?;
@@ -91,11 +91,11 @@ fn settle<W: RoundObserver>(
     holders: &mut [Holders],
     watch: &W,
 ) -> Result<Pruned, AllocError>
-    requires { (m : Minima) × ((words : List Word)
+    requires { (m : Alphabet) × ((words : List Word)
         × ((positions.now ≡ map need_at (positions_of m words))
         × HasAllEntries (positions_of m words) patterns.now (map (λ l. l.items) standing.now)
         holders.old)) }
-    ensures { (m : Minima) (words : List Word)
+    ensures { (m : Alphabet) (words : List Word)
         → positions.now ≡ map need_at (positions_of m words)
         → HasAllEntries (positions_of m words) patterns.now (map (λ l. l.items) standing.now)
         holders.old

@@ -1,8 +1,8 @@
 //! The rounds through the entries, each of which takes out what no position needs.
 ghost use Rattle.std.specs.Prelude.{◌≡◌, ◌<◌, ◌≤◌, not, [], ◌∷◌, List, length, map, if◌then◌else◌, replicate, IfOk, None, MatchOption};
 ghost use Rattle.pg_types.specs.declared.limits.TheConstants.{LEVEL_MAX};
-ghost use Rattle.pg_prune.specs.Positions.{PositionInReach};
-ghost use Rattle.pg_prune.specs.Prunes.{need_at, needs as needs_of};
+ghost use Rattle.pg_prune.specs.Inside.positions.PositionInReach.{PositionInReach, need_at};
+ghost use Rattle.pg_prune.specs.Prunes.{needs as needs_of};
 ghost use Rattle.pg_prune.specs.Inside.rounds.EqualBreaks.{break_alike};
 ghost use Rattle.pg_prune.specs.Inside.Findings.{first_difference};
 ghost use Rattle.pg_prune.specs.Inside.positions.EntryPositions.{positions_of_entries};

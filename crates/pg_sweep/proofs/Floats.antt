@@ -4,8 +4,7 @@ use Rattle.std.specs.Prelude.{◌||◌}
 use Rattle.serde_json.specs.View.{items_of}
 use Rattle.serde_json.specs.Written.{has_float, items_have_float}
 use Rattle.pg_sweep.specs.declared.rows.SweepRow.{SweepRow}
-use Rattle.pg_sweep.specs.Files.{sweep_data}
-use Rattle.pg_sweep.specs.Inside.Rows.{rows_data}
+use Rattle.pg_sweep.specs.Inside.SweepData.{sweep_data, rows_data}
 
 -- neither do the objects of its rows
 rows_no_float : (set : ℕ) (rows : List SweepRow) → items_have_float (items_of (rows_data set rows)) ≡ false

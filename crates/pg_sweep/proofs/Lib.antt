@@ -1,3 +1,4 @@
 pub mod Winners
 pub mod Steps
 pub mod Floats
+pub mod Written

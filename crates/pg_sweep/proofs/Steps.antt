@@ -12,9 +12,9 @@ use Rattle.pg_dict.specs.Parts.{part_of}
 use Rattle.pg_dict.specs.Inside.Parts.{is_in_part, part_from}
 use Rattle.pg_dict.proofs.WordStore.Parts.{whole_part}
 use Rattle.pg_sweep.specs.declared.rows.SweepRow.{SweepRow}
-use Rattle.pg_sweep.specs.Files.{row_data}
-use Rattle.pg_sweep.specs.Inside.Rows.{rows_data}
-use Rattle.pg_sweep.specs.Sweeps.{costs_of, total_of}
+use Rattle.pg_sweep.specs.Inside.SweepData.{row_data, rows_data}
+use Rattle.pg_sweep.specs.Sweeps.{total_of}
+use Rattle.pg_sweep.specs.Promises.{costs_of}
 use Rattle.pg_sweep.specs.Inside.Least.{winner_from}
 
 -- a fact of a list that may begin with an element more

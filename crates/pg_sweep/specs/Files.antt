@@ -1,25 +1,16 @@
--- The file of a sweep.
-use Rattle.std.specs.Prelude.{ℕ, List, [], ◌∷◌, ◌++◌, map, codes}
-use Rattle.std.specs.List.{enumerate_from}
-use Rattle.serde_json.specs.Data.{Data, number, unsigned, array, object, member, no_members}
-use Rattle.serde_json.specs.View.{items_of}
-use Rattle.serde_json.specs.Written.{compact_text}
+-- The file of a sweep, which is one JSON object.
+use Rattle.std.specs.Prelude.{ℕ, List, ◌++◌, codes, decimal}
+use Rattle.std.specs.List.{enumerate_from, join_by}
 use Rattle.pg_sweep.specs.declared.rows.SweepRow.{SweepRow}
 
--- the object of a row: its members stand in the order of their names
-abbrev pub row_data : ℕ → SweepRow → Data
-row_data set row = object (member (codes "bad") (number (unsigned row.totals.bad)) (
-    member (codes "cost") (number (unsigned row.cost)) (
-    member (codes "good") (number (unsigned row.totals.good)) (
-    member (codes "missed") (number (unsigned row.totals.missed)) (
-    member (codes "set") (number (unsigned set)) no_members)))))
+-- the object of a row with its number
+abbrev pub row_text : ℕ × SweepRow → List ℕ
+row_text r = codes "{\"bad\":" ++ decimal r.1.totals.bad ++ codes ",\"cost\":" ++ decimal r.1.cost
+    ++ codes ",\"good\":" ++ decimal r.1.totals.good ++ codes ",\"missed\":"
+    ++ decimal r.1.totals.missed ++ codes ",\"set\":" ++ decimal r.0 ++ codes "}"
 
--- the object of a sweep: the rows have the numbers from 1 on
-abbrev pub sweep_data : ℕ → List SweepRow → ℕ → Data
-sweep_data folds rows winner = object (member (codes "folds") (number (unsigned folds)) (
-    member (codes "rows") (array (items_of (map (λ r. row_data r.0 r.1) (enumerate_from 1 rows)))) (
-    member (codes "winner") (number (unsigned winner)) no_members)))
-
--- the text of the file: the object in its compact form, and a line feed
+-- the file: the number of folds, the rows, which have the numbers from 1 on, and the winner
 abbrev pub sweep_file : ℕ → List SweepRow → ℕ → List ℕ
-sweep_file folds rows winner = compact_text (sweep_data folds rows winner) ++ 10 ∷ []
+sweep_file folds rows winner = codes "{\"folds\":" ++ decimal folds ++ codes ",\"rows\":["
+    ++ join_by row_text (codes ",") (enumerate_from 1 rows)
+    ++ codes "],\"winner\":" ++ decimal winner ++ codes "}\n"

@@ -2,4 +2,4 @@
 pub mod Inputs
 pub mod Least
 pub mod RowsAndWinner
-pub mod Rows
+pub mod SweepData

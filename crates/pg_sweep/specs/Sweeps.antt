@@ -3,12 +3,12 @@ use Rattle.std.specs.Prelude.{ℕ, ◌+◌, ◌*◌, true, false, List, map, sum
 use Rattle.std.specs.List.{range_with_len}
 use Rattle.pg_types.specs.declared.marks.Totals.{Totals}
 use Rattle.pg_types.specs.Parameters.{Parameters}
+use Rattle.pg_select.specs.Sums.{totals}
 use Rattle.pg_translate.specs.Alphabets.{Alphabet}
 use Rattle.pg_dict.specs.Word.{Word}
 use Rattle.pg_dict.specs.Parts.{part_of}
 use Rattle.pg_patterns.specs.Values.{Patterns}
-use Rattle.pg_driver.specs.Accounts.{totals_by}
-use Rattle.pg_driver.specs.Traces.{trace, final_patterns, source_of}
+use Rattle.pg_driver.specs.Traces.{trace, final_patterns}
 use Rattle.pg_sweep.specs.declared.rows.SweepRow.{SweepRow}
 
 -- what the runs of a sweep share: the table, the words, the starting patterns, the number of folds
@@ -20,9 +20,8 @@ pub record Terms : Type 0 where
 
 -- the totals of a fold by the patterns that are selected from all other words
 abbrev pub fold_totals : Terms → Parameters → ℕ → Totals
-fold_totals s set fold = totals_by (source_of s.table (part_of s.folds fold true s.words))
-    (final_patterns s.start
-    (trace (source_of s.table (part_of s.folds fold false s.words)) set s.start))
+fold_totals s set fold = totals s.table (part_of s.folds fold true s.words)
+    (final_patterns s.start (trace s.table (part_of s.folds fold false s.words) set s.start))
 
 -- the sums of several totals
 abbrev pub total_of : List Totals → Totals
@@ -33,7 +32,3 @@ total_of ts = let sum : (Totals → ℕ) → ℕ = λ f. sum_by f ts in
 abbrev pub set_row : Terms → ℕ → ℕ → Parameters → SweepRow
 set_row s bad missed set = let t = total_of (map (fold_totals s set) (range_with_len 0 s.folds)) in
     record { totals = t; cost = bad * t.bad + missed * t.missed }
-
--- what the rows cost
-abbrev pub costs_of : List SweepRow → List ℕ
-costs_of rows = map (λ (r : SweepRow). r.cost) rows

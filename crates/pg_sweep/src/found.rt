@@ -10,9 +10,8 @@ pub struct Sweep {
 }
 
 impl Model for Sweep {
-    ghost use Rattle.pg_sweep.specs.Sweeps.{costs_of};
     ghost use Rattle.pg_sweep.specs.Inside.RowsAndWinner.{RowsAndWinner};
-    ghost use Rattle.pg_sweep.specs.Promises.{IsWinner};
+    ghost use Rattle.pg_sweep.specs.Promises.{costs_of, IsWinner};
 
     ghost Value = { RowsAndWinner };
 
@@ -23,9 +22,8 @@ impl Model for Sweep {
 
 impl Sweep {
     ghost use Rattle.std.specs.Prelude.{◌≡◌, ◌≤◌, length};
-    ghost use Rattle.pg_sweep.specs.Sweeps.{costs_of};
     ghost use Rattle.pg_sweep.specs.Winners.{winner_of};
-    ghost use Rattle.pg_sweep.specs.Promises.{IsWinner};
+    ghost use Rattle.pg_sweep.specs.Promises.{costs_of, IsWinner};
 
     /// What a sweep with these rows found.
     pub(crate) fn new(rows: Vec<SweepRow>) -> Sweep

@@ -1,6 +1,6 @@
 //! The rows of a sweep, and the winner among them.
 ghost use Rattle.std.specs.Prelude.{◌≡◌, ◌≤◌, length};
-ghost use Rattle.pg_sweep.specs.Sweeps.{costs_of};
+ghost use Rattle.pg_sweep.specs.Promises.{costs_of};
 ghost use Rattle.pg_sweep.specs.Winners.{winner_of};
 
 use pg_types::Totals;

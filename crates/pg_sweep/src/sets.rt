@@ -4,7 +4,8 @@ ghost use Rattle.pg_translate.specs.Alphabets.{letters_of};
 ghost use Rattle.pg_dict.specs.Inside.SoundWords.{SignsAtMost};
 ghost use Rattle.pg_patterns.specs.Inside.PatternMaps.{SignsUpTo};
 ghost use Rattle.pg_types.specs.declared.limits.TheConstants.{FOLDS_MAX, FOLDS_MIN, PRICE_MAX, SETS_MAX};
-ghost use Rattle.pg_sweep.specs.Sweeps.{set_row, costs_of};
+ghost use Rattle.pg_sweep.specs.Sweeps.{set_row};
+ghost use Rattle.pg_sweep.specs.Promises.{costs_of};
 ghost use Rattle.pg_sweep.specs.Winners.{winner_of};
 ghost use Rattle.pg_sweep.specs.Inside.Inputs.{IsSmallFor};
 

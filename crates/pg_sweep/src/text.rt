@@ -1,8 +1,8 @@
 //! The file of a sweep.
 ghost use Rattle.std.specs.Prelude.{◌≡◌, map, IfOk};
 ghost use Rattle.serde_json.specs.View.{view};
-ghost use Rattle.pg_sweep.specs.Files.{row_data, sweep_data, sweep_file};
-ghost use Rattle.pg_sweep.specs.Inside.Rows.{rows_data};
+ghost use Rattle.pg_sweep.specs.Files.{sweep_file};
+ghost use Rattle.pg_sweep.specs.Inside.SweepData.{row_data, rows_data, sweep_data};
 
 use crate::found::Sweep;
 use crate::rows::SweepRow;
@@ -46,8 +46,7 @@ fn sweep_value(alloc: Global, folds: u8, sweep: &Sweep) -> Result<Value, AllocEr
 }
 
 /// The file of a sweep with this number of folds: one JSON object in its compact form, and a line
-/// feed. Its definition is the library's own of the compact text of a JSON value, so there is no
-/// second rule for how JSON is written.
+/// feed.
 pub fn sweep_text(alloc: Global, folds: u8, sweep: &Sweep) -> Result<Vec<u8>, AllocError>
     ensures { IfOk result (λ text. text.items ≡ sweep_file folds sweep.now.rows sweep.now.winner) }
 {

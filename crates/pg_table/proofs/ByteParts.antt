@@ -2,7 +2,7 @@
 use Rattle.std.proofs.Common.{◌≡◌, ℕ, suc, zero, ◌+◌, ◌*◌, ◌/◌, ◌%◌, ◌<◌, List, [], ◌∷◌, ◌++◌, length, get_or, slice_index, refl, sym, ◌∙◌, ap, arith, append_assoc, length-append}
 use Rattle.std.specs.List.{flat_map}
 use Rattle.std.proofs.lemmas.List.{get_or-append-add}
-use Rattle.pg_table.specs.Numbers.{u16_at, u32_at, u16_bytes, u32_bytes}
+use Rattle.pg_table.specs.Numbers.{number_of_bytes, bytes_of_number}
 
 -- the bytes of a part stand in b from i on
 pub record HasPart (b : List ℕ) (i : ℕ) (part : List ℕ) : Type 0 where
@@ -35,31 +35,33 @@ part_byte b i k part has inside =
     within (x ∷ xs) zero inside = refl
     within (x ∷ xs) (suc k) inside = within xs k (omega arith)
 
-pub length-u16_bytes : (n : ℕ) → length (u16_bytes n) ≡ 2
-unfolding u16_bytes
-length-u16_bytes n = refl
+pub length-bytes : (n x : ℕ) → length (bytes_of_number n x) ≡ n
+unfolding bytes_of_number
+length-bytes zero x = refl
+length-bytes (suc n) x = omega (arith, length-append (bytes_of_number n (x / 256)) (x % 256 ∷ []), length-bytes n (x / 256))
 
-pub length-u32_bytes : (n : ℕ) → length (u32_bytes n) ≡ 4
-unfolding u16_bytes u32_bytes
-length-u32_bytes n = refl
+-- nothing is left of a number behind n bytes
+abbrev Fits : ℕ → ℕ → Type 0
+Fits zero x = x ≡ 0
+Fits (suc n) x = Fits n (x / 256)
 
--- a number of two bytes reads back
-pub u16_part : (b : List ℕ) (i n : ℕ) → HasPart b i (u16_bytes n) → n < 65536 → u16_at b i ≡ n
-unfolding u16_at u16_bytes
-u16_part b i n has small =
-    let start : i + 0 ≡ i = omega arith in
-    let high : slice_index b i ≡ n / 256 % 256 = ap (slice_index b) (sym start) ∙ part_byte b i 0 (u16_bytes n) has (omega arith) in
-    let low : slice_index b (i + 1) ≡ n % 256 = part_byte b i 1 (u16_bytes n) has (omega arith) in
-    omega arith
+-- a number reads back
+number_part : (n : ℕ) (b : List ℕ) (i x : ℕ) → HasPart b i (bytes_of_number n x) → Fits n x → number_of_bytes n b i ≡ x
+unfolding number_of_bytes bytes_of_number
+number_part zero b i x has fits = sym fits
+number_part (suc n) b i x has fits =
+    let front : List ℕ = bytes_of_number n (x / 256) in
+    let high : number_of_bytes n b i ≡ x / 256 = number_part n b i (x / 256) (part_first b i front (x % 256 ∷ []) has) fits in
+    let last : HasPart b (i + n) (x % 256 ∷ []) = part_rest b i (i + n) front (x % 256 ∷ []) has (ap (λ k. i + k) (length-bytes n (x / 256))) in
+    let start : i + n + 0 ≡ i + n = omega arith in
+    let low : slice_index b (i + n) ≡ x % 256 = ap (slice_index b) (sym start) ∙ part_byte b (i + n) 0 (x % 256 ∷ []) last (omega arith) in
+    omega (arith, high, low)
 
--- and one of four
-pub u32_part : (b : List ℕ) (i n : ℕ) → HasPart b i (u32_bytes n) → n < 4294967296 → u32_at b i ≡ n
-unfolding u32_at u32_bytes
-u32_part b i n has small =
-    let two : i + length (u16_bytes (n / 65536)) ≡ i + 2 = ap (λ k. i + k) (length-u16_bytes (n / 65536)) in
-    let high : u16_at b i ≡ n / 65536 = u16_part b i (n / 65536) (part_first b i (u16_bytes (n / 65536)) (u16_bytes (n % 65536)) has) (omega arith) in
-    let low : u16_at b (i + 2) ≡ n % 65536 = u16_part b (i + 2) (n % 65536) (part_rest b i (i + 2) (u16_bytes (n / 65536)) (u16_bytes (n % 65536)) has two) (omega arith) in
-    omega arith
+pub u16_part : (b : List ℕ) (i n : ℕ) → HasPart b i (bytes_of_number 2 n) → n < 65536 → number_of_bytes 2 b i ≡ n
+u16_part b i n has small = number_part 2 b i n has (omega arith)
+
+pub u32_part : (b : List ℕ) (i n : ℕ) → HasPart b i (bytes_of_number 4 n) → n < 4294967296 → number_of_bytes 4 b i ≡ n
+u32_part b i n has small = number_part 4 b i n has (omega arith)
 
 -- parts of one length, one behind the other
 module _ {X : Type 0} (f : X → List ℕ) (k : ℕ) (each : (x : X) → length (f x) ≡ k) where

@@ -1,3 +1,4 @@
 pub mod BigEndian
 pub mod Ranges
 pub mod FormLaws
+pub mod BreachLaws

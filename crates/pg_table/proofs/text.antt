@@ -4,6 +4,7 @@ pub mod Groups
 pub mod Recorded
 pub mod RecordedStrings
 pub mod Sharing
+pub mod TableBytes
 pub mod TableCells
 pub mod TableRecords
 pub mod FileParts

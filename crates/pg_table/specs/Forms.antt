@@ -1,30 +1,31 @@
 -- The form of a packed table file: a head, cells and records, whose sizes are constants.
-use Rattle.std.specs.Prelude.{ℕ, ◌+◌, ◌*◌, Bool, not, ◌&&◌, ◌||◌, nat_eq, nat_lt, nat_le, List, [], ◌∷◌, length, map, slice_index}
+use Rattle.std.specs.Prelude.{ℕ, ◌+◌, ◌*◌, Bool, not, ◌&&◌, ◌||◌, nat_eq, nat_lt, nat_le, List, length, map, slice_index, codes}
 use Rattle.std.specs.List.{list_all, range_with_len, starts_with}
 use Rattle.pg_types.specs.declared.limits.TheConstants.{LEVEL_MAX, PATTERN_SIGNS_MAX, SIGNS_MAX}
 use Rattle.pg_outputs.specs.declared.records.Record.{Record}
 use Rattle.pg_table.specs.declared.parts.cell.Cell.{Cell}
 use Rattle.pg_table.specs.declared.parts.sizes.Sizes.{Sizes}
 use Rattle.pg_types.specs.declared.packed_table.TheConstants.{CELL_LEN, HEAD_LEN, RECORD_LEN, TABLE_MAX}
-use Rattle.pg_table.specs.Numbers.{u16_at, u32_at}
-
--- the bytes that every file begins with, `PGT1`
-abbrev pub signature : List ℕ
-signature = 80 ∷ 71 ∷ 84 ∷ 49 ∷ []
+use Rattle.pg_table.specs.Numbers.{number_of_bytes}
 
 -- the sizes of a file: the greatest sign, and how many cells and records it has
 abbrev pub sizes_of : List ℕ → Sizes
-sizes_of b = record { signs = u32_at b 4; cells = u32_at b 8; records = u32_at b 12 }
+sizes_of b = let u32 = number_of_bytes 4 b in
+    record { signs = u32 4; cells = u32 8; records = u32 12 }
 
 -- the cell with this number
 abbrev pub cell_at : List ℕ → ℕ → Cell
-cell_at b at = let start = HEAD_LEN + CELL_LEN * at in
-    record { sign = u16_at b start; child = u32_at b (start + 2); head = u32_at b (start + 6) }
+cell_at b at = let start = HEAD_LEN + CELL_LEN * at in let u32 = number_of_bytes 4 b in
+    record { sign = number_of_bytes 2 b start; child = u32 (start + 2); head = u32 (start + 6) }
 
 -- the record with this number, from 0; the record 0 has the head 1
 abbrev pub record_at : List ℕ → ℕ → Record
 record_at b i = let at = HEAD_LEN + CELL_LEN * (sizes_of b).cells + RECORD_LEN * i in
-    record { value = slice_index b at; dot = slice_index b (at + 1); next = u32_at b (at + 2) }
+    record {
+      value = slice_index b at;
+      dot = slice_index b (at + 1);
+      next = number_of_bytes 4 b (at + 2);
+    }
 
 -- all records
 abbrev pub records_of : List ℕ → List Record
@@ -32,7 +33,7 @@ records_of b = map (record_at b) (range_with_len 0 (sizes_of b).records)
 
 -- a file begins as it should, and its sizes are in range and agree with its length
 abbrev pub has_sizes : List ℕ → Bool
-has_sizes b = let h = sizes_of b in starts_with nat_eq b signature && (nat_eq (length b)
+has_sizes b = let h = sizes_of b in starts_with nat_eq b (codes "PGT1") && (nat_eq (length b)
     (HEAD_LEN + CELL_LEN * h.cells + RECORD_LEN * h.records) && nat_le (length b) TABLE_MAX
     && nat_le 1 h.signs && nat_le h.signs SIGNS_MAX && nat_lt h.signs h.cells)
 

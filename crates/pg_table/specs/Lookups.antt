@@ -4,9 +4,9 @@ use Rattle.std.specs.Prelude.{ℕ, ◌+◌, ◌-◌, Bool, ◌&&◌, nat_eq, nat
 use Rattle.std.specs.List.{flat_map, range_with_len}
 use Rattle.pg_types.specs.declared.limits.TheConstants.{PATTERN_SIGNS_MAX}
 use Rattle.pg_types.specs.declared.marks.Totals.{Totals}
+use Rattle.pg_translate.specs.Alphabets.{Alphabet}
 use Rattle.pg_dict.specs.Word.{Word}
 use Rattle.pg_outputs.specs.Lists.{list_of}
-use Rattle.pg_select.specs.CountedPositions.{Minima}
 use Rattle.pg_select.specs.Statuses.{status_with}
 use Rattle.pg_select.specs.Sums.{marks_by, totals_of}
 use Rattle.pg_table.specs.Forms.{sizes_of, cell_at, records_of}
@@ -44,6 +44,6 @@ table_value b w p = fold max 0 (flat_map
     (range_with_len 0 (length w)))
 
 -- the totals of all words by the table
-abbrev pub table_totals : Minima → List Word → List ℕ → Totals
+abbrev pub table_totals : Alphabet → List Word → List ℕ → Totals
 table_totals m words b = totals_of (flat_map
     (λ w. marks_by m (λ p. status_with w p (table_value b w.signs p)) w) words)

@@ -1,5 +1,6 @@
 //! The parts of a table in bytes.
 
+pub mod breach;
 pub mod cell;
 pub mod numbers;
 pub mod record;

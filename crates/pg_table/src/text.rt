@@ -9,8 +9,8 @@ ghost use Rattle.pg_types.specs.declared.packed_table.TheConstants.{CELL_LEN, HE
 ghost use Rattle.pg_table.specs.Forms.{is_well_formed};
 ghost use Rattle.pg_table.specs.Inside.Laws.{HasEntries};
 ghost use Rattle.pg_table.specs.Inside.text.PackedTrie.{IsEntered};
-ghost use Rattle.pg_table.specs.Texts.{cell_bytes, record_bytes, table_text};
-ghost use Rattle.pg_table.specs.Inside.text.Files.{file_of};
+ghost use Rattle.pg_table.specs.Texts.{table_text};
+ghost use Rattle.pg_table.specs.Inside.text.Files.{file_of, cell_bytes, record_bytes};
 
 mod entering;
 mod row;

@@ -1,19 +1,19 @@
 //! A packed table that is read in place.
 ghost use Rattle.std.specs.Prelude.{◌≡◌, ◌+◌, ◌-◌, ◌<◌, ◌≤◌, ◌&&◌, true, false, ◌⊎◌, ℕ, [], ◌∷◌, length, slice_index, slice_index_or, slice_range, All, IfSome, MatchOption};
-ghost use Rattle.std.specs.List.{list_all, range_with_len};
 ghost use Rattle.pg_types.specs.declared.limits.TheConstants.{WORD_LETTERS_MAX};
 ghost use Rattle.pg_types.specs.declared.packed_table.TheConstants.{CELL_LEN, RECORD_LEN};
 ghost use Rattle.pg_types.specs.Inside.Signs.{IsSignCount};
 ghost use Rattle.pg_table.specs.Lookups.{cell_has_sign, table_value};
 ghost use Rattle.pg_table.specs.Inside.view.ListsOf.{list_in};
-ghost use Rattle.pg_table.specs.Forms.{sizes_of, cell_at, is_sound_cell, is_sound_record, is_well_formed};
-ghost use Rattle.pg_table.specs.Inside.Extents.{cell_start, record_start, read_record, file_len};
+ghost use Rattle.pg_table.specs.Forms.{sizes_of, cell_at, is_well_formed};
+ghost use Rattle.pg_table.specs.Inside.Extents.{cell_start, record_start};
 
 pub mod totals;
 mod walks;
 
+use crate::breaches::first_breach;
 use crate::parts::cell::{Cell, cell_start};
-use crate::parts::record::{is_sound_record, read_record, record_start};
+use crate::parts::record::{read_record, record_start};
 use crate::parts::sizes::Sizes;
 use crate::view::walks::walk;
 use pg_dict::WordRef;
@@ -42,17 +42,18 @@ impl<'a> Model for TableView<'a> {
 }
 
 impl<'a> TableView<'a> {
-    /// The table of a file, or `None` exactly where the bytes are not well formed. Each byte is
-    /// looked at once.
+    /// The table of a file, or `None` exactly where the file breaks a rule. Each cell and each
+    /// record is looked at once.
     pub fn read(bytes: &'a [u8]) -> Option<TableView<'a>>
         ensures { MatchOption result (is_well_formed bytes.now ≡ false)
             (λ v. (is_well_formed bytes.now ≡ true) × (v ≡ bytes.now)) }
     {
-        let sizes = Sizes::read(bytes)?;
-        if has_sound_cells(bytes, &sizes) && has_sound_records(bytes, &sizes) {
-            Some(TableView { bytes, sizes })
-        } else {
-            None
+        match first_breach(bytes) {
+            None => Some(TableView {
+                bytes,
+                sizes: Sizes::of(bytes),
+            }),
+            Some(_) => None,
         }
     }
 
@@ -139,35 +140,4 @@ impl TableView<'_> {
         let entry = read_record(self.bytes, record_start(self.sizes.cells, i));
         Some((entry.value, entry.dot, entry.next as u32))
     }
-}
-
-/// Whether each cell may stand at its place.
-fn has_sound_cells(bytes: &[u8], sizes: &Sizes) -> bool
-    requires { file_len sizes.now ≤ length bytes.now }
-    ensures { result
-        ≡ list_all (λ at. is_sound_cell sizes.now at (cell_at bytes.now at))
-        (range_with_len 0 sizes.now.cells) }
-{
-    for at in 0..sizes.cells {
-        if !Cell::read(bytes, at).is_sound(at, sizes) {
-            return false;
-        }
-    }
-    true
-}
-
-/// Whether each record may stand at its place.
-fn has_sound_records(bytes: &[u8], sizes: &Sizes) -> bool
-    requires { file_len sizes.now ≤ length bytes.now }
-    ensures { result ≡ list_all
-        (λ i. is_sound_record i (read_record bytes.now (record_start sizes.now.cells i)))
-        (range_with_len 0 sizes.now.records) }
-{
-    for i in 0..sizes.records {
-        let record = read_record(bytes, record_start(sizes.cells, i));
-        if !is_sound_record(i, record) {
-            return false;
-        }
-    }
-    true
 }

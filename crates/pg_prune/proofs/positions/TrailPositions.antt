@@ -8,12 +8,13 @@ use Rattle.std.proofs.lemmas.List.{append-nil, length-drop, drop_more}
 use Rattle.std.proofs.lemmas.Option.{slice_get-get_or}
 use Rattle.std.proofs.lemmas.List.Elements.{filter-append, filter_map-append}
 use Rattle.std.proofs.lemmas.List.FromFn.{length-map-range_with_len}
+use Rattle.pg_translate.specs.Alphabets.{Alphabet}
 use Rattle.pg_translate.specs.Reach.{reach}
 use Rattle.pg_dict.specs.Word.{Word}
 use Rattle.pg_patterns.specs.Values.{stands_at, applies}
-use Rattle.pg_select.specs.CountedPositions.{Minima}
 use Rattle.pg_select.proofs.Reaches.{Reaches, reach_is}
-use Rattle.pg_prune.specs.Positions.{PositionInReach, positions_in_reach}
+use Rattle.pg_prune.specs.Positions.{positions_in_reach}
+use Rattle.pg_prune.specs.Inside.positions.PositionInReach.{PositionInReach}
 use Rattle.pg_prune.specs.Inside.positions.WordPositions.{positions_in, positions_from}
 use Rattle.pg_prune.proofs.positions.PositionForms.{positions_as}
 use Rattle.pg_prune.specs.Inside.positions.EntryPositions.{numbers_of, stands, positions_of_entry}
@@ -24,7 +25,7 @@ use Rattle.pg_prune.proofs.positions.TrailStarts.{signs_at}
 
 -- a position of a word
 abbrev pub position_at : ℕ → List ℕ → ℕ → PositionInReach
-position_at number signs p = record { word = number; signs = signs; position = p }
+position_at number signs p = (record { word = number; position = p }, signs)
 
 -- what is given where a test passes
 abbrev pub only_if : Bool → Option ℕ → Option ℕ
@@ -144,7 +145,7 @@ kept_given {X} f p g h same (a ∷ rest) =
     by_test true xs = refl
     by_test false xs = refl
 
-module _ (m : Minima) (all : List Word) (u : List ℕ) (v d : ℕ) where
+module _ (m : Alphabet) (all : List Word) (u : List ℕ) (v d : ℕ) where
   -- the starts in a word, and what is found there
   in_word : (word b : ℕ) (w : Word) → slice_get all word ≡ Some w → filter_map (number_at_dot m all d) (filter (begins_at all u) (starts_in word b (length w.signs)))
       ≡ filter_map (found_start u d w.signs (reach m.left m.right (length w.signs)) b) (range_with_len 0 (length w.signs))

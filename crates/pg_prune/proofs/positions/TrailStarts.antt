@@ -5,9 +5,9 @@ use Rattle.std.specs.Option.{option_map_or}
 use Rattle.std.proofs.lemmas.List.FromFn.{map-range_with_len_more, get_or-range_with_len, length-range_with_len}
 use Rattle.std.proofs.lemmas.List.Elements.{All-map}
 use Rattle.pg_types.specs.declared.limits.TheConstants.{FILE_MAX}
+use Rattle.pg_translate.specs.Alphabets.{Alphabet}
 use Rattle.pg_dict.specs.Word.{Word}
 use Rattle.pg_dict.proofs.WordStore.Parts.{drop_word}
-use Rattle.pg_select.specs.CountedPositions.{Minima}
 use Rattle.pg_prune.specs.declared.positions.trail.Start.{Start}
 use Rattle.pg_prune.specs.Inside.positions.Trails.{signs_of_word, reach_count, start_at, starts_in, starts_from, IsStart}
 
@@ -18,7 +18,7 @@ start_more first word before at =
     ∙ ap (λ xs. first ++ xs) (sym (map-range_with_len_more (start_at word before) 0 at at (omega arith)))
 
 -- a word more
-pub word_more : (m : Minima) (ws : List Word) (word before : ℕ) (done total : List Start) (w : Word) → slice_get ws word ≡ Some w → done
+pub word_more : (m : Alphabet) (ws : List Word) (word before : ℕ) (done total : List Start) (w : Word) → slice_get ws word ≡ Some w → done
     ++ starts_from m word before (drop word ws) ≡ total → (done ++ starts_in word before (length w.signs))
     ++ starts_from m (word + 1) (before + reach_count m (length w.signs)) (drop (word + 1) ws) ≡ total
 word_more m ws word before done total w at whole =

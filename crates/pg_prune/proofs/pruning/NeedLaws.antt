@@ -6,17 +6,17 @@ use Rattle.std.proofs.lemmas.Bool.{eq-eqb, eqb-true, and_from}
 use Rattle.pg_types.proofs.BoolFacts.{and_first, and_second}
 use Rattle.pg_patterns.specs.Values.{Patterns, value_at}
 use Rattle.pg_prune.specs.declared.pruned.Need.{Need}
-use Rattle.pg_prune.specs.Positions.{PositionInReach}
-use Rattle.pg_prune.specs.Prunes.{break_alike_at, need_at, needs_from}
+use Rattle.pg_prune.specs.Inside.positions.PositionInReach.{PositionInReach, need_at}
+use Rattle.pg_prune.specs.Prunes.{break_alike_at}
+use Rattle.pg_prune.specs.Inside.Findings.{needs_from, need_list, first_difference}
 use Rattle.pg_prune.specs.Inside.rounds.EqualBreaks.{break_alike}
-use Rattle.pg_prune.specs.Inside.Findings.{need_list, first_difference}
 use Rattle.pg_prune.proofs.rounds.RoundLaws.{by_test, regrouped, NoneGoes}
 use Rattle.pg_prune.proofs.pruning.Told.{IsBehind}
 
 -- a map breaks alike with itself
 pub alike_self : (xs : List PositionInReach) (P : Patterns) → break_alike xs P P ≡ true
 alike_self [] P = refl
-alike_self (x ∷ xs) P = and_from _ _ (eq-eqb (value_at P x.signs x.position % 2) _ refl) (alike_self xs P)
+alike_self (x ∷ xs) P = and_from _ _ (eq-eqb (value_at P x.1 x.0.position % 2) _ refl) (alike_self xs P)
 
 -- and two maps that break alike with a third
 pub alike_over : (xs : List PositionInReach) (P Q R : Patterns) → break_alike xs P Q ≡ true → break_alike xs Q R ≡ true → break_alike xs P R ≡ true

@@ -8,12 +8,11 @@ use Rattle.std.proofs.lemmas.Bool.{and_from}
 use Rattle.pg_types.proofs.BoolFacts.{and_first, and_second}
 use Rattle.pg_patterns.specs.Values.{Patterns}
 use Rattle.pg_patterns.specs.Inside.PatternMaps.{is_entry}
-use Rattle.pg_prune.specs.Positions.{PositionInReach}
+use Rattle.pg_prune.specs.Inside.positions.PositionInReach.{PositionInReach}
 use Rattle.pg_prune.specs.Inside.positions.EntryPositions.{positions_of_entry}
 use Rattle.pg_prune.specs.Inside.rounds.Turns.{Turn, with_entry, IsAwaited, IsTallied}
-use Rattle.pg_prune.specs.Inside.rounds.Picks.{ListsPositions}
+use Rattle.pg_prune.specs.Inside.rounds.Picks.{ListsPositions, entry_of}
 use Rattle.pg_prune.proofs.rounds.RoundSteps.{standing_at}
-use Rattle.pg_prune.specs.Inside.rounds.Picks.{entry_of}
 
 -- where no entry is, no position has a holder
 pub none_tallied : (positions : List PositionInReach) → IsTallied positions [] (replicate (length positions) (replicate 9 0))

@@ -2,7 +2,7 @@
 use Rattle.std.proofs.Common.{◌≡◌, ℕ, Bool, true, false, not, List, [], Option, Some, None, refl, sym, ap, ◌∙◌}
 use Rattle.std.specs.Prelude.{MatchOption, is_some}
 use Rattle.pg_patterns.specs.Values.{Patterns}
-use Rattle.pg_prune.specs.Positions.{PositionInReach}
+use Rattle.pg_prune.specs.Inside.positions.PositionInReach.{PositionInReach}
 use Rattle.pg_prune.specs.Prunes.{break_alike_at}
 use Rattle.pg_prune.specs.Inside.rounds.EqualBreaks.{break_alike}
 use Rattle.pg_prune.specs.Inside.Findings.{first_difference}
@@ -19,5 +19,5 @@ pub some_need : (xs : List PositionInReach) (P Q : Patterns) (o : Option ℕ) �
     → is_some o ≡ not (break_alike xs P Q)
 some_need xs P Q None none = ap not (sym (alike_where_none P Q xs none))
 some_need xs P Q (Some k) found =
-    let first = found.position (record { word = 0; signs = []; position = 0 }) in
+    let first = found.position ((record { word = 0; position = 0 }, [])) in
     cannot (break_alike xs P Q) (λ alike. let none = find_nothing (break_alike_at P Q) xs alike in absurd (cc (sym none ∙ first)))

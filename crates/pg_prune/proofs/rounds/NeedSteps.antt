@@ -1,19 +1,19 @@
 -- The loop over the needs of entries with some numbers.
-use Rattle.std.proofs.Common.{◌≡◌, ℕ, ◌+◌, ◌<◌, ◌≤◌, List, [], ◌∷◌, ◌++◌, map, length, get_or, take, drop, Option, Some, refl, sym, subst, ap, ◌∙◌, append_assoc, take-append-drop}
+use Rattle.std.proofs.Common.{◌≡◌, ℕ, ◌+◌, ◌<◌, ◌≤◌, List, [], ◌∷◌, ◌++◌, map, length, get_or, take, drop, Option, Some, sym, subst, ap, ◌∙◌, append_assoc, take-append-drop}
 use Rattle.std.specs.Prelude.{slice_get}
 use Rattle.std.specs.List.{All}
 use Rattle.std.proofs.lemmas.List.{append-nil, map-append, take_more, get_or-map}
 use Rattle.std.proofs.lemmas.List.Elements.{All-take, All-drop}
 use Rattle.pg_patterns.specs.Values.{Patterns}
 use Rattle.pg_prune.specs.declared.pruned.Need.{Need}
-use Rattle.pg_prune.specs.Positions.{PositionInReach}
-use Rattle.pg_prune.specs.Prunes.{need_at, needs_from, needs}
-use Rattle.pg_prune.specs.Inside.Findings.{need_list, first_difference}
+use Rattle.pg_prune.specs.Inside.positions.PositionInReach.{PositionInReach, need_at}
+use Rattle.pg_prune.specs.Prunes.{needs}
+use Rattle.pg_prune.specs.Inside.Findings.{needs_from, need_list, first_difference}
+use Rattle.pg_prune.proofs.pruning.NeedForms.{needs_are}
 use Rattle.pg_prune.specs.Inside.rounds.Turns.{with_entry, without_entry, IsHeld, IsTallied, IsFound}
-use Rattle.pg_prune.specs.Inside.rounds.Picks.{picked_entries, IsKeptSoFar}
+use Rattle.pg_prune.specs.Inside.rounds.Picks.{picked_entries, IsKeptSoFar, entry_of}
 use Rattle.pg_prune.proofs.rounds.TurnSteps.{left_at, none_left}
 use Rattle.pg_prune.proofs.rounds.RoundSteps.{turn_of, turn_from}
-use Rattle.pg_prune.specs.Inside.rounds.Picks.{entry_of}
 
 module _ (positions : List PositionInReach) (P : Patterns) (kept : List ℕ) where
   -- these are the needs of the first i entries
@@ -21,8 +21,7 @@ module _ (positions : List PositionInReach) (P : Patterns) (kept : List ℕ) whe
   NeedsSoFar found i = found ++ needs_from positions (picked_entries P (take i kept)) (picked_entries P (drop i kept)) ≡ needs positions (picked_entries P kept)
 
   pub needs_begin : NeedsSoFar [] 0
-  unfolding needs
-  needs_begin = refl
+  needs_begin = sym (needs_are positions (picked_entries P kept))
 
   pub needs_end : (found : List Need) (i : ℕ) → length kept ≤ i → NeedsSoFar found i → found ≡ needs positions (picked_entries P kept)
   needs_end found i behind so =
@@ -59,5 +58,5 @@ module _ (positions : List PositionInReach) (P : Patterns) (kept : List ℕ) whe
 -- a position that was found gives its need
 pub need_found : (positions : List PositionInReach) (found : Option PositionInReach) (k : ℕ) (d : Need) → IsFound positions found k → need_list found ≡ get_or (map need_at positions) k d ∷ []
 need_found positions found k d f =
-    let at : PositionInReach = record { word = 0; signs = []; position = 0 } in
+    let at : PositionInReach = (record { word = 0; position = 0 }, []) in
     ap need_list (f.position at) ∙ ap (λ n. n ∷ []) (sym (get_or-map need_at positions k at d f.within))

@@ -4,8 +4,7 @@ use Rattle.std.specs.List.{All, range_with_len}
 use Rattle.std.proofs.lemmas.List.{map-append, take_more}
 use Rattle.std.proofs.lemmas.List.Elements.{All-nil, All-cons}
 use Rattle.pg_patterns.specs.Values.{Patterns}
-use Rattle.pg_prune.specs.Inside.rounds.Picks.{picked_entries}
-use Rattle.pg_prune.specs.Inside.rounds.Picks.{entry_of}
+use Rattle.pg_prune.specs.Inside.rounds.Picks.{picked_entries, entry_of}
 
 -- one number more
 pub picked_more : (P : Patterns) (kept : List ℕ) (i : ℕ) → i < length kept → picked_entries P (take (i + 1) kept) ≡ picked_entries P (take i kept) ++ entry_of P (get_or kept i 0) ∷ []

@@ -4,8 +4,8 @@ use Rattle.std.specs.Prelude.{nat_eq}
 use Rattle.std.proofs.lemmas.List.{append-nil}
 use Rattle.std.proofs.lemmas.Bool.{eq-eqb, eqb-true}
 use Rattle.pg_patterns.specs.Values.{Patterns}
-use Rattle.pg_prune.specs.Positions.{PositionInReach}
-use Rattle.pg_prune.specs.Prunes.{round_from, round, rounds_from, RoundsResult}
+use Rattle.pg_prune.specs.Inside.positions.PositionInReach.{PositionInReach}
+use Rattle.pg_prune.specs.Prunes.{round_from, rounds_from}
 use Rattle.pg_prune.specs.Inside.rounds.EqualBreaks.{break_alike}
 
 -- a fact of either of two values, as the test says
@@ -27,14 +27,13 @@ module _ (positions : List PositionInReach) (P : Patterns) (Good : Patterns → 
       (λ goes. round_keeps kept rest (step kept e rest goes good))
       (λ stays. round_keeps (kept ++ e ∷ []) rest (subst Good (sym (regrouped kept e rest)) good))
 
-  pub rounds_keep : (count most : ℕ) (Q : Patterns) → Good Q → Good (rounds_from positions P count most Q).patterns
-  unfolding round
+  pub rounds_keep : (count most : ℕ) (Q : Patterns) → Good Q → Good (rounds_from positions P count most Q).0
   rounds_keep count zero Q good = good
   rounds_keep count (suc most) Q good =
-      by_test (λ (r : RoundsResult). Good r.patterns) (nat_eq (length (round positions P Q)) (length Q))
-      (record { patterns = Q; count = count + 1 }) (rounds_from positions P (count + 1) most (round positions P Q))
+      by_test (λ (r : Patterns × ℕ). Good r.0) (nat_eq (length (round_from positions P [] Q)) (length Q))
+      (Q, count) (rounds_from positions P (count + 1) most (round_from positions P [] Q))
       (λ goes. good)
-      (λ stays. rounds_keep (count + 1) most (round positions P Q) (round_keeps [] Q good))
+      (λ stays. rounds_keep (count + 1) most (round_from positions P [] Q) (round_keeps [] Q good))
 
 module _ (positions : List PositionInReach) (P : Patterns) where
   -- a round leaves no more entries than there were
@@ -83,14 +82,13 @@ module _ (positions : List PositionInReach) (P : Patterns) where
 
   -- rounds end with one that takes out nothing
   pub rounds_end : (count most : ℕ) (Q : Patterns) → length Q ≤ most
-      → length (round positions P (rounds_from positions P count most Q).patterns) ≡ length (rounds_from positions P count most Q).patterns
-  unfolding round
+      → length (round_from positions P [] (rounds_from positions P count most Q).0) ≡ length (rounds_from positions P count most Q).0
   rounds_end count zero Q few = let fewer : length (round_from positions P [] Q) ≤ 0 + length Q = round_length [] Q in omega arith
   rounds_end count (suc most) Q few =
-      by_test (λ (r : RoundsResult). length (round positions P r.patterns) ≡ length r.patterns) (nat_eq (length (round positions P Q)) (length Q))
-      (record { patterns = Q; count = count + 1 }) (rounds_from positions P (count + 1) most (round positions P Q))
+      by_test (λ (r : Patterns × ℕ). length (round_from positions P [] r.0) ≡ length r.0) (nat_eq (length (round_from positions P [] Q)) (length Q))
+      (Q, count) (rounds_from positions P (count + 1) most (round_from positions P [] Q))
       (λ goes. eqb-true _ _ goes)
       (λ stays.
       let fewer : length (round_from positions P [] Q) ≤ 0 + length Q = round_length [] Q in
-      let other : length (round positions P Q) ≢ length Q = λ same. absurd (cc (eq-eqb (length (round positions P Q)) (length Q) same)) in
-      rounds_end (count + 1) most (round positions P Q) (omega arith))
+      let other : length (round_from positions P [] Q) ≢ length Q = λ same. absurd (cc (eq-eqb (length (round_from positions P [] Q)) (length Q) same)) in
+      rounds_end (count + 1) most (round_from positions P [] Q) (omega arith))

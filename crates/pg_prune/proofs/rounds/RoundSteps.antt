@@ -10,8 +10,8 @@ use Rattle.std.proofs.lemmas.Bool.{and_from, eq-eqb, eqb-true}
 use Rattle.pg_types.proofs.BoolFacts.{and_first, and_second}
 use Rattle.pg_patterns.specs.Values.{Patterns}
 use Rattle.pg_patterns.specs.Inside.PatternMaps.{is_entry}
-use Rattle.pg_prune.specs.Positions.{PositionInReach}
-use Rattle.pg_prune.specs.Prunes.{round_from, round}
+use Rattle.pg_prune.specs.Inside.positions.PositionInReach.{PositionInReach}
+use Rattle.pg_prune.specs.Prunes.{round_from}
 use Rattle.pg_prune.specs.Inside.rounds.EqualBreaks.{break_alike}
 use Rattle.pg_prune.specs.Inside.positions.EntryPositions.{positions_of_entry, positions_of_entries}
 use Rattle.pg_prune.specs.Inside.rounds.Turns.{Turn, with_entry, without_entry, IsHeld, IsTallied}
@@ -70,7 +70,7 @@ pub record Rounding (positions : List PositionInReach) (P : Patterns) (kept : Li
   pub rest : All (λ i. i < length P) left
   pub tallied : IsTallied positions (picked_entries P stay ++ picked_entries P left) holders
   pub alike : break_alike positions P (picked_entries P stay ++ picked_entries P left) ≡ true
-  pub so_far : round_from positions P (picked_entries P stay) (picked_entries P left) ≡ round positions P (picked_entries P kept)
+  pub so_far : round_from positions P (picked_entries P stay) (picked_entries P left) ≡ round_from positions P [] (picked_entries P kept)
 
 continues_with : (positions : List PositionInReach) (P kept : Patterns) (e : (List ℕ × ℕ) × ℕ) (left : Patterns) → break_alike positions P (kept ++ left) ≡ true
     → round_from positions P kept (e ∷ left) ≡ round_from positions P kept left
@@ -94,7 +94,6 @@ unlike false c both e = refl
 
 module _ (positions : List PositionInReach) (P : Patterns) (stands : List (List ℕ)) (kept : List ℕ) where
   pub rounding_begins : (holders : List (List ℕ)) → IsKeptSoFar positions P stands holders kept → Rounding positions P kept holders [] kept
-  unfolding round
   rounding_begins holders s = record { within = All-nil (λ i. i < length P); rest = s.within; tallied = s.tallied; alike = s.alike; so_far = refl }
 
   pub rounding_goes : (holders new : List (List ℕ)) (stay : List ℕ) (k : ℕ) (left : List ℕ) → Rounding positions P kept holders stay (k ∷ left)

@@ -8,7 +8,7 @@ use Rattle.std.proofs.lemmas.List.Sums.{sum_by-append}
 use Rattle.pg_types.proofs.BoolFacts.{and_first, and_second, no_test}
 use Rattle.pg_patterns.specs.Values.{Patterns, value_at}
 use Rattle.pg_patterns.specs.Inside.PatternMaps.{is_entry}
-use Rattle.pg_prune.specs.Positions.{PositionInReach}
+use Rattle.pg_prune.specs.Inside.positions.PositionInReach.{PositionInReach}
 use Rattle.pg_prune.specs.Inside.positions.EntryPositions.{stands}
 use Rattle.pg_prune.specs.Inside.rounds.Holders.{count_at, holder_counts, greatest_value_from, greatest_held, with_one, less_one}
 
@@ -114,7 +114,7 @@ either true = inl refl
 either false = inr refl
 
 -- the value of a position is the greatest that some entry gives
-pub greatest_value_is : (Q : Patterns) (x : PositionInReach) → list_all is_entry Q ≡ true → greatest_held (holder_counts Q x) ≡ value_at Q x.signs x.position
+pub greatest_value_is : (Q : Patterns) (x : PositionInReach) → list_all is_entry Q ≡ true → greatest_held (holder_counts Q x) ≡ value_at Q x.1 x.0.position
 greatest_value_is [] x sound = refl
 greatest_value_is (e ∷ Q) x sound =
     let low = entry_low e (and_first _ _ sound) in
@@ -122,7 +122,7 @@ greatest_value_is (e ∷ Q) x sound =
     let others = greatest_value_is Q x (and_second _ _ sound) in
     elim (either (stands e x)) [
       | inl there ↦ ap greatest_held (tally_there [] e Q x low high there) ∙ greatest_value_with (holder_counts Q x) e.1 low (omega arith)
-          ∙ ap (max e.1) others ∙ ap (λ b. max (cond b e.1 0) (value_at Q x.signs x.position)) (sym there)
-      | inr away ↦ ap greatest_held (tally_away [] e Q x away) ∙ others ∙ (let at : value_at Q x.signs x.position ≡ max 0 (value_at Q x.signs x.position) = omega arith in at)
-          ∙ ap (λ b. max (cond b e.1 0) (value_at Q x.signs x.position)) (sym away)
+          ∙ ap (max e.1) others ∙ ap (λ b. max (cond b e.1 0) (value_at Q x.1 x.0.position)) (sym there)
+      | inr away ↦ ap greatest_held (tally_away [] e Q x away) ∙ others ∙ (let at : value_at Q x.1 x.0.position ≡ max 0 (value_at Q x.1 x.0.position) = omega arith in at)
+          ∙ ap (λ b. max (cond b e.1 0) (value_at Q x.1 x.0.position)) (sym away)
     ]

@@ -10,7 +10,7 @@ use Rattle.std.proofs.lemmas.Bool.{and_from, eq-eqb}
 use Rattle.pg_types.proofs.BoolFacts.{and_first, and_second}
 use Rattle.pg_patterns.specs.Values.{Patterns, value_at}
 use Rattle.pg_patterns.specs.Inside.PatternMaps.{is_entry}
-use Rattle.pg_prune.specs.Positions.{PositionInReach}
+use Rattle.pg_prune.specs.Inside.positions.PositionInReach.{PositionInReach}
 use Rattle.pg_prune.specs.Prunes.{break_alike_at}
 use Rattle.pg_prune.specs.Inside.positions.EntryPositions.{stands, numbers_of}
 use Rattle.pg_prune.specs.Inside.rounds.Holders.{count_at, holder_counts, greatest_held, with_one, less_one, stays_alike}
@@ -60,16 +60,16 @@ module _ (t : Turn) (numbers : List ℕ) (value : ℕ) (of : IsOf t numbers valu
       ∙ get_or-set_same (holder_counts (without_entry t) x) (value - 1) (n + 1) 0 (omega arith) in
       omega arith
 
-  top_with_is : (x : PositionInReach) → greatest_held (holder_counts (with_entry t) x) ≡ value_at (with_entry t) x.signs x.position
+  top_with_is : (x : PositionInReach) → greatest_held (holder_counts (with_entry t) x) ≡ value_at (with_entry t) x.1 x.0.position
   top_with_is x = greatest_value_is (with_entry t) x of.sound
 
-  top_without_is : (x : PositionInReach) → greatest_held (holder_counts (without_entry t) x) ≡ value_at (without_entry t) x.signs x.position
+  top_without_is : (x : PositionInReach) → greatest_held (holder_counts (without_entry t) x) ≡ value_at (without_entry t) x.1 x.0.position
   top_without_is x = greatest_value_is (without_entry t) x (sound_without t.before t.entry t.behind of.sound)
 
   alike_as : (x : PositionInReach) (c : List ℕ) → c ≡ holder_counts (without_entry t) x → break_alike_at (with_entry t) (without_entry t) x
       ≡ nat_eq (greatest_held (holder_counts (with_entry t) x) % 2) (greatest_held c % 2)
   alike_as x c is =
-      ap (λ v. nat_eq (v % 2) (value_at (without_entry t) x.signs x.position % 2)) (sym (top_with_is x))
+      ap (λ v. nat_eq (v % 2) (value_at (without_entry t) x.1 x.0.position % 2)) (sym (top_with_is x))
       ∙ ap (λ v. nat_eq (greatest_held (holder_counts (with_entry t) x) % 2) (v % 2)) (sym (top_without_is x) ∙ ap greatest_held (sym is))
 
   pub there_alike : (x : PositionInReach) → stands t.entry x ≡ true → break_alike_at (with_entry t) (without_entry t) x ≡ stays_alike value (holder_counts (with_entry t) x)

@@ -6,7 +6,7 @@ use Rattle.std.specs.List.{list_all}
 use Rattle.std.proofs.lemmas.List.{length-map, map-append}
 use Rattle.std.proofs.lemmas.Bool.{and_from}
 use Rattle.pg_types.proofs.BoolFacts.{and_first, and_second}
-use Rattle.pg_prune.specs.Positions.{PositionInReach}
+use Rattle.pg_prune.specs.Inside.positions.PositionInReach.{PositionInReach}
 use Rattle.pg_prune.specs.Inside.positions.EntryPositions.{numbers_of}
 
 -- the first number: positions before it fail, its own passes, and the numbers that follow are those of the positions behind it

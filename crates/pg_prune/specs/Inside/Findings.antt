@@ -5,8 +5,8 @@ use Rattle.std.specs.Option.{option_map, option_to_list}
 use Rattle.pg_translate.specs.Alphabets.{Alphabet}
 use Rattle.pg_patterns.specs.Values.{Patterns}
 use Rattle.pg_prune.specs.declared.pruned.Need.{Need}
-use Rattle.pg_prune.specs.Positions.{PositionInReach}
-use Rattle.pg_prune.specs.Prunes.{break_alike_at, need_at, needs, Pruning, RoundsResult}
+use Rattle.pg_prune.specs.Inside.positions.PositionInReach.{PositionInReach, need_at}
+use Rattle.pg_prune.specs.Prunes.{break_alike_at, needs, Pruning}
 use Rattle.pg_prune.specs.Reports.{keep_line}
 
 -- the first position at which two maps do not break alike, where there is one
@@ -17,14 +17,21 @@ first_difference positions P Q = find (λ x. not (break_alike_at P Q x)) positio
 abbrev pub need_list : Option PositionInReach → List Need
 need_list position = option_to_list (option_map need_at position)
 
+-- the needs of the entries from `rest` on, behind those before them
+abbrev pub needs_from : List PositionInReach → Patterns → Patterns → List Need
+needs_from positions before [] = []
+needs_from positions before (e ∷ rest) =
+    need_list (first_difference positions (before ++ e ∷ rest) (before ++ rest))
+    ++ needs_from positions (before ++ e ∷ []) rest
+
 -- what the rounds come to, where so many entries were there at first
-abbrev pub found_by : List PositionInReach → ℕ → RoundsResult → Pruning
+abbrev pub found_by : List PositionInReach → ℕ → Patterns × ℕ → Pruning
 found_by positions first r =
     record {
-      patterns = r.patterns;
-      needs = needs positions r.patterns;
-      rounds = r.count;
-      removed = first - length r.patterns;
+      patterns = r.0;
+      needs = needs positions r.0;
+      rounds = r.1;
+      removed = first - length r.0;
     }
 
 -- the lines of entries with their needs

@@ -1,6 +1,5 @@
 //! Where the entries of a set of patterns stand.
 ghost use Rattle.std.specs.Prelude.{◌≡◌, map, IfOk, All};
-ghost use Rattle.pg_select.specs.CountedPositions.{minima_of};
 ghost use Rattle.pg_prune.specs.Positions.{positions_in_reach as positions_of};
 ghost use Rattle.pg_prune.specs.Inside.positions.EntryPositions.{positions_of_entries};
 ghost use Rattle.pg_prune.specs.Inside.positions.Trails.{IsStart, all_starts as all_starts_of};
@@ -22,7 +21,7 @@ pub(crate) fn gather(
     patterns: &PatternSet,
 ) -> Result<Vec<Vec<usize>>, AllocError>
     ensures { IfOk result (λ lists. map (λ l. l.items) lists.items
-        ≡ positions_of_entries (positions_of (minima_of table.now) dictionary.now) patterns.now) }
+        ≡ positions_of_entries (positions_of table.now dictionary.now) patterns.now) }
 {
     let all = all_starts(alloc, dictionary, table)?;
     gather_by(alloc, dictionary, table, patterns, all.as_slice())
@@ -36,10 +35,10 @@ fn gather_by(
     patterns: &PatternSet,
     all: &[Start],
 ) -> Result<Vec<Vec<usize>>, AllocError>
-    requires starts { all.now ≡ all_starts_of (minima_of table.now) dictionary.now }
+    requires starts { all.now ≡ all_starts_of table.now dictionary.now }
     requires known { All (IsStart dictionary.now) all.now }
     ensures { IfOk result (λ lists. map (λ l. l.items) lists.items
-        ≡ positions_of_entries (positions_of (minima_of table.now) dictionary.now) patterns.now) }
+        ≡ positions_of_entries (positions_of table.now dictionary.now) patterns.now) }
 {
     let mut trail = Trail::new(alloc);
     let mut lists = Vec::new(alloc);

@@ -3,7 +3,6 @@
 ghost use Rattle.std.specs.Prelude.{◌≡◌, ◌≤◌, ◌+◌, ◌++◌, [], length, take, map, slice_index_or, IfOk, OnOk, All};
 ghost use Rattle.std.specs.List.{filter, filter_map};
 ghost use Rattle.pg_types.specs.declared.limits.TheConstants.{PATTERN_SIGNS_MAX};
-ghost use Rattle.pg_select.specs.CountedPositions.{minima_of};
 ghost use Rattle.pg_prune.specs.Inside.positions.Trails.{IsStart, IsTrail, starts_in, all_starts as all_starts_of, continues_with as continues_with_by, starts_of as starts_by, last_list, number_at_dot as number_by};
 
 use pg_dict::Dictionary;
@@ -38,7 +37,7 @@ pub(crate) fn all_starts(
     table: &Table,
 ) -> Result<Vec<Start>, AllocError>
     ensures starts { IfOk result
-        (λ starts. starts.items ≡ all_starts_of (minima_of table.now) dictionary.now) }
+        (λ starts. starts.items ≡ all_starts_of table.now dictionary.now) }
     ensures known { IfOk result (λ starts. All (IsStart dictionary.now) starts.items) }
 {
     let mut starts = Vec::new(alloc);
@@ -172,7 +171,7 @@ impl Trail {
         requires known { All (IsStart dictionary.now) all.now }
         requires few { length signs.now ≤ PATTERN_SIGNS_MAX }
         ensures positions { IfOk result (λ numbers. numbers.items ≡ filter_map
-            (number_by (minima_of table.now) dictionary.now dot)
+            (number_by table.now dictionary.now dot)
             (starts_by dictionary.now all.now signs.now)) }
         ensures trail { OnOk result
             (IsTrail dictionary.now all.now signs.now (map (λ l. l.items) self.new.starts.items)) }
@@ -198,7 +197,7 @@ impl Trail {
 /// The number of the position at which the dot of a string stands; none where that is out of reach.
 fn number_at_dot(dictionary: &Dictionary, table: &Table, start: Start, dot: u8) -> Option<usize>
     requires { IsStart dictionary.now start }
-    ensures { result ≡ number_by (minima_of table.now) dictionary.now dot start }
+    ensures { result ≡ number_by table.now dictionary.now dot start }
 {
     let (first, last) = table.reach(dictionary.word(start.word).signs.len())?;
     let position = start.at + usize::from(dot);
@@ -219,7 +218,7 @@ fn standing(
 ) -> Result<Vec<usize>, AllocError>
     requires { All (IsStart dictionary.now) starts.now }
     ensures { IfOk result (λ numbers. numbers.items
-        ≡ filter_map (number_by (minima_of table.now) dictionary.now dot) starts.now) }
+        ≡ filter_map (number_by table.now dictionary.now dot) starts.now) }
 {
     let mut numbers = Vec::new(alloc);
     'starts: for start in starts {

@@ -3,11 +3,11 @@ use Rattle.std.specs.Prelude.{ℕ, ◌+◌, ◌*◌, ◌≤◌, List, map}
 use Rattle.std.specs.List.{range_with_len}
 use Rattle.pg_types.specs.Parameters.{Parameters}
 use Rattle.pg_types.specs.declared.marks.Totals.{Totals}
+use Rattle.pg_select.specs.Sums.{totals as totals_by}
 use Rattle.pg_translate.specs.Alphabets.{letters_of}
 use Rattle.pg_dict.specs.Word.{Word}
 use Rattle.pg_dict.specs.Inside.SoundWords.{SignsAtMost}
-use Rattle.pg_driver.specs.Accounts.{totals_by}
-use Rattle.pg_driver.specs.Traces.{trace, final_patterns, source_of}
+use Rattle.pg_driver.specs.Traces.{trace, final_patterns}
 use Rattle.pg_patterns.specs.Inside.PatternMaps.{SignsUpTo}
 use Rattle.pg_types.specs.Inside.Limits.{sums_limit}
 use Rattle.pg_sweep.specs.Sweeps.{Terms, fold_totals, total_of}
@@ -24,8 +24,8 @@ terms g = record {
 
 -- the totals of words that were left out, by the patterns that are selected from the rest
 abbrev pub rest_totals : Terms → Parameters → List Word → List Word → Totals
-rest_totals s set rest left_out = totals_by (source_of s.table left_out)
-    (final_patterns s.start (trace (source_of s.table rest) set s.start))
+rest_totals s set rest left_out = totals_by s.table left_out
+    (final_patterns s.start (trace s.table rest set s.start))
 
 -- the totals of the first folds together
 abbrev pub totals_of_first_folds : Terms → Parameters → ℕ → Totals

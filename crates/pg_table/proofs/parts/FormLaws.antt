@@ -7,7 +7,8 @@ use Rattle.pg_outputs.specs.declared.records.Record.{Record}
 use Rattle.pg_table.specs.declared.parts.cell.Cell.{Cell}
 use Rattle.pg_table.specs.declared.parts.sizes.Sizes.{Sizes}
 use Rattle.pg_types.specs.declared.packed_table.TheConstants.{TABLE_MAX}
-use Rattle.pg_table.specs.Forms.{signature, sizes_of, cell_at, record_at, has_sizes, is_sound_cell, is_sound_record, is_well_formed}
+use Rattle.pg_table.specs.Forms.{sizes_of, cell_at, record_at, has_sizes, is_sound_cell, is_sound_record, is_well_formed}
+use Rattle.pg_table.specs.Inside.text.Files.{signature}
 use Rattle.pg_table.specs.Inside.Extents.{read_record, record_start, file_len, sizes_fit}
 use Rattle.pg_table.proofs.parts.Ranges.{range_passes, range_tells}
 

@@ -6,10 +6,11 @@ use Rattle.std.proofs.lemmas.Bool.{cases_Bool}
 use Rattle.std.proofs.lemmas.List.{map-append, take_all, drop_all, length-drop, length-take-le}
 use Rattle.std.proofs.lemmas.List.Sums.{fold-append}
 use Rattle.std.proofs.lemmas.Option.{slice_get_within, slice_get-get_or, get_or_from_slice_get}
-use Rattle.pg_types.specs.Placement.{Families, root, enter, enter_after, cell_in, with_sign}
-use Rattle.pg_types.specs.Inside.PlacementSteps.{lowest_base}
+use Rattle.pg_types.specs.Placement.{Families, root, enter}
+use Rattle.pg_types.specs.Inside.PlacementSteps.{enter_after}
 use Rattle.pg_types.specs.Inside.Placing.{cell_of}
 use Rattle.pg_types.specs.Tails.{outputs_of}
+use Rattle.pg_types.proofs.PlacementLaws.{enter_is}
 use Rattle.pg_patterns.specs.Inside.PatternMaps.{IsPatternMap, SignsUpTo}
 use Rattle.pg_patterns.proofs.Sound.{each_sign}
 use Rattle.pg_types.specs.Inside.Signs.{is_sign}
@@ -23,7 +24,7 @@ use Rattle.pg_cells.specs.Inside.linked.ValuedFamilies.{ValuedFamilies}
 use Rattle.pg_cells.specs.Inside.linked.AreValuedFamilies.{AreValuedFamilies}
 use Rattle.pg_cells.specs.Inside.families.Root.{root_alone}
 use Rattle.pg_cells.specs.Inside.linked.Walks.{AddsBlanks}
-use Rattle.pg_cells.proofs.PlacementLaws.{cell_of_last}
+use Rattle.pg_cells.proofs.SignLaws.{sign_stays}
 use Rattle.pg_cells.proofs.StringMaps.{order, same_string, same_from, equal_or_not, find_put_same, find_put_other}
 use Rattle.pg_table.specs.Inside.text.PackedTrie.{IsGroup, IsReached, IsEntered, dot_values}
 use Rattle.pg_table.specs.Inside.text.Sharing.{Lists, Shares, value_and_dot, with_ends}
@@ -36,17 +37,15 @@ use Rattle.pg_table.proofs.text.TableRecords.{head_is, records_are}
 -- a string that has a cell is entered without effect
 pub enter_there : (n : ℕ) (h : ValuedFamilies ℕ) → AreValuedFamilies h → (q : List ℕ) (c : ℕ) → cell_of h.families q ≡ Some c → enter n h.families q ≡ h.families
 enter_there n h held [] c is = refl
-enter_there n h held (s ∷ q) c is = after (s ∷ []) q is
+enter_there n h held (s ∷ q) c is = enter_is n h.families (s ∷ q) ∙ after (s ∷ []) q is
   where
-    after : (p q : List ℕ) → cell_of h.families (p ++ q) ≡ Some c → enter_after (lowest_base n) h.families p q ≡ h.families
+    after : (p q : List ℕ) → cell_of h.families (p ++ q) ≡ Some c → enter_after n h.families p q ≡ h.families
     after p [] is = refl
-    after p (t ∷ q) is = by (cell_in h.families p t) refl (after (p ++ t ∷ []) q (ap (cell_of h.families) (append_assoc p (t ∷ []) q) ∙ is))
+    after p (t ∷ q) is = by (cell_of h.families (p ++ t ∷ [])) refl (after (p ++ t ∷ []) q (ap (cell_of h.families) (append_assoc p (t ∷ []) q) ∙ is))
       where
-        by : (o : Option ℕ) → cell_in h.families p t ≡ o → enter_after (lowest_base n) h.families (p ++ t ∷ []) q ≡ h.families → enter_after (lowest_base n) h.families p (t ∷ q) ≡ h.families
-        by None e rest =
-            absurd (let z : None ≡ Some c = sym (held.none_longer p t q (cell_of_last h.families p t ∙ e)) ∙ ap (cell_of h.families) (append_assoc p (t ∷ []) q) ∙ is in cc)
-        by (Some d) e rest =
-            ap (λ o. enter_after (lowest_base n) (elim o as (λ _. Families) [ Some cell ↦ h.families | None ↦ with_sign (lowest_base n) h.families p t ]) (p ++ t ∷ []) q) e ∙ rest
+        by : (o : Option ℕ) → cell_of h.families (p ++ t ∷ []) ≡ o → enter_after n h.families (p ++ t ∷ []) q ≡ h.families → enter_after n h.families p (t ∷ q) ≡ h.families
+        by None e rest = absurd (let z : None ≡ Some c = sym (held.none_longer p t q e) ∙ ap (cell_of h.families) (append_assoc p (t ∷ []) q) ∙ is in cc)
+        by (Some d) e rest = ap (λ fs. enter_after n fs (p ++ t ∷ []) q) (sign_stays n h held p t d e) ∙ rest
 
 -- entries of one string are entered once
 one_string : (n : ℕ) (q : List ℕ) (fs : Families) (es : List Entry) → ((k : ℕ) (e : Entry) → slice_get es k ≡ Some e → e.0.0 ≡ q) → enter n fs q ≡ fs → fold (enter n) fs (map (λ e. e.0.0) es) ≡ fs

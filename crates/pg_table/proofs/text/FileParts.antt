@@ -8,27 +8,26 @@ use Rattle.pg_outputs.specs.declared.records.Record.{Record}
 use Rattle.pg_table.specs.declared.parts.cell.Cell.{Cell}
 use Rattle.pg_table.specs.declared.parts.sizes.Sizes.{Sizes}
 use Rattle.pg_types.specs.declared.packed_table.TheConstants.{TABLE_MAX}
-use Rattle.pg_table.specs.Numbers.{u16_at, u32_at, u16_bytes, u32_bytes}
-use Rattle.pg_table.specs.Forms.{signature, sizes_of, cell_at, record_at, records_of}
+use Rattle.pg_table.specs.Numbers.{number_of_bytes, bytes_of_number}
+use Rattle.pg_table.specs.Forms.{sizes_of, cell_at, record_at, records_of}
 use Rattle.pg_table.specs.Inside.Extents.{cell_start, record_start, read_record, file_len}
-use Rattle.pg_table.specs.Texts.{cell_bytes, record_bytes}
-use Rattle.pg_table.specs.Inside.text.Files.{file_of}
+use Rattle.pg_table.specs.Inside.text.Files.{file_of, cell_bytes, record_bytes, signature}
 use Rattle.pg_table.proofs.parts.FormLaws.{IsSoundCell, IsSoundRecord, IsWellFormed}
-use Rattle.pg_table.proofs.ByteParts.{HasPart, part_first, part_rest, part_byte, part_of, u16_part, u32_part, length-parts, length-u16_bytes, length-u32_bytes}
+use Rattle.pg_table.proofs.ByteParts.{HasPart, part_first, part_rest, part_byte, part_of, u16_part, u32_part, length-parts, length-bytes}
 
 pub length-cell_bytes : (c : Cell) → length (cell_bytes c) ≡ 10
 length-cell_bytes c =
     omega (
       arith,
-      length-append (u16_bytes c.sign ++ u32_bytes c.child) (u32_bytes c.head),
-      length-append (u16_bytes c.sign) (u32_bytes c.child),
-      length-u16_bytes c.sign,
-      length-u32_bytes c.child,
-      length-u32_bytes c.head,
+      length-append (bytes_of_number 2 c.sign ++ bytes_of_number 4 c.child) (bytes_of_number 4 c.head),
+      length-append (bytes_of_number 2 c.sign) (bytes_of_number 4 c.child),
+      length-bytes 2 c.sign,
+      length-bytes 4 c.child,
+      length-bytes 4 c.head,
     )
 
 pub length-record_bytes : (r : Record) → length (record_bytes r) ≡ 6
-length-record_bytes r = omega (arith, length-u32_bytes r.next)
+length-record_bytes r = omega (arith, length-bytes 4 r.next)
 
 -- the sizes that a file with these cells and records has
 abbrev pub sizes_with : ℕ → List Cell → List Record → Sizes
@@ -36,18 +35,18 @@ sizes_with n cells records = record { signs = n; cells = length cells; records =
 
 -- the bytes before the cells
 abbrev front : ℕ → List Cell → List Record → List ℕ
-front n cells records = signature ++ u32_bytes n ++ u32_bytes (length cells) ++ u32_bytes (length records)
+front n cells records = signature ++ bytes_of_number 4 n ++ bytes_of_number 4 (length cells) ++ bytes_of_number 4 (length records)
 
 length-front : (n : ℕ) (cells : List Cell) (records : List Record) → length (front n cells records) ≡ 16
 length-front n cells records =
     omega (
       arith,
-      length-append (signature ++ u32_bytes n ++ u32_bytes (length cells)) (u32_bytes (length records)),
-      length-append (signature ++ u32_bytes n) (u32_bytes (length cells)),
-      length-append signature (u32_bytes n),
-      length-u32_bytes n,
-      length-u32_bytes (length cells),
-      length-u32_bytes (length records),
+      length-append (signature ++ bytes_of_number 4 n ++ bytes_of_number 4 (length cells)) (bytes_of_number 4 (length records)),
+      length-append (signature ++ bytes_of_number 4 n) (bytes_of_number 4 (length cells)),
+      length-append signature (bytes_of_number 4 n),
+      length-bytes 4 n,
+      length-bytes 4 (length cells),
+      length-bytes 4 (length records),
     )
 
 pub length-file_of : (n : ℕ) (cells : List Cell) (records : List Record) → length (file_of n cells records) ≡ file_len (sizes_with n cells records)
@@ -83,21 +82,21 @@ module _ (n : ℕ) (cells : List Cell) (records : List Record) (small : AreSmall
   in_front : HasPart b 0 (front n cells records)
   in_front = part_first b 0 (front n cells records) (flat_map cell_bytes cells) (part_first b 0 (front n cells records ++ flat_map cell_bytes cells) (flat_map record_bytes records) whole)
 
-  three : HasPart b 0 (signature ++ u32_bytes n ++ u32_bytes (length cells))
-  three = part_first b 0 (signature ++ u32_bytes n ++ u32_bytes (length cells)) (u32_bytes (length records)) in_front
+  three : HasPart b 0 (signature ++ bytes_of_number 4 n ++ bytes_of_number 4 (length cells))
+  three = part_first b 0 (signature ++ bytes_of_number 4 n ++ bytes_of_number 4 (length cells)) (bytes_of_number 4 (length records)) in_front
 
-  two : HasPart b 0 (signature ++ u32_bytes n)
-  two = part_first b 0 (signature ++ u32_bytes n) (u32_bytes (length cells)) three
+  two : HasPart b 0 (signature ++ bytes_of_number 4 n)
+  two = part_first b 0 (signature ++ bytes_of_number 4 n) (bytes_of_number 4 (length cells)) three
 
   pub sizes_are : sizes_of b ≡ sizes_with n cells records
   sizes_are =
-      let len_two : length (signature ++ u32_bytes n) ≡ 8 = omega (arith, length-append signature (u32_bytes n), length-u32_bytes n) in
-      let len_three : length (signature ++ u32_bytes n ++ u32_bytes (length cells)) ≡ 12 =
-      omega (arith, length-append (signature ++ u32_bytes n) (u32_bytes (length cells)), length-u32_bytes (length cells)) in
-      let signs : u32_at b 4 ≡ n = u32_part b 4 n (part_rest b 0 4 signature (u32_bytes n) two refl) (omega (arith, small.few)) in
-      let count : u32_at b 8 ≡ length cells = u32_part b 8 (length cells) (part_rest b 0 8 (signature ++ u32_bytes n) (u32_bytes (length cells)) three (omega arith)) (omega (arith, small.short)) in
-      let listed : u32_at b 12 ≡ length records =
-      u32_part b 12 (length records) (part_rest b 0 12 (signature ++ u32_bytes n ++ u32_bytes (length cells)) (u32_bytes (length records)) in_front (omega arith)) (omega (arith, small.short)) in
+      let len_two : length (signature ++ bytes_of_number 4 n) ≡ 8 = omega (arith, length-append signature (bytes_of_number 4 n), length-bytes 4 n) in
+      let len_three : length (signature ++ bytes_of_number 4 n ++ bytes_of_number 4 (length cells)) ≡ 12 =
+      omega (arith, length-append (signature ++ bytes_of_number 4 n) (bytes_of_number 4 (length cells)), length-bytes 4 (length cells)) in
+      let signs : number_of_bytes 4 b 4 ≡ n = u32_part b 4 n (part_rest b 0 4 signature (bytes_of_number 4 n) two refl) (omega (arith, small.few)) in
+      let count : number_of_bytes 4 b 8 ≡ length cells = u32_part b 8 (length cells) (part_rest b 0 8 (signature ++ bytes_of_number 4 n) (bytes_of_number 4 (length cells)) three (omega arith)) (omega (arith, small.short)) in
+      let listed : number_of_bytes 4 b 12 ≡ length records =
+      u32_part b 12 (length records) (part_rest b 0 12 (signature ++ bytes_of_number 4 n ++ bytes_of_number 4 (length cells)) (bytes_of_number 4 (length records)) in_front (omega arith)) (omega (arith, small.short)) in
       λ i. record { signs = signs i; cells = count i; records = listed i }
 
   in_cells : HasPart b 16 (flat_map cell_bytes cells)
@@ -109,15 +108,15 @@ module _ (n : ℕ) (cells : List Cell) (records : List Record) (small : AreSmall
   cell_is at c inside is =
       let sound = small.cells_sound at c inside is in
       let has : HasPart b (cell_start at) (cell_bytes c) = part_of cell_bytes 10 length-cell_bytes b 16 (cell_start at) cells at c in_cells inside is refl in
-      let first = part_first b (cell_start at) (u16_bytes c.sign ++ u32_bytes c.child) (u32_bytes c.head) has in
-      let len : length (u16_bytes c.sign ++ u32_bytes c.child) ≡ 6 = omega (arith, length-append (u16_bytes c.sign) (u32_bytes c.child), length-u16_bytes c.sign, length-u32_bytes c.child) in
-      let sign : u16_at b (cell_start at) ≡ c.sign = u16_part b (cell_start at) c.sign (part_first b (cell_start at) (u16_bytes c.sign) (u32_bytes c.child) first)
+      let first = part_first b (cell_start at) (bytes_of_number 2 c.sign ++ bytes_of_number 4 c.child) (bytes_of_number 4 c.head) has in
+      let len : length (bytes_of_number 2 c.sign ++ bytes_of_number 4 c.child) ≡ 6 = omega (arith, length-append (bytes_of_number 2 c.sign) (bytes_of_number 4 c.child), length-bytes 2 c.sign, length-bytes 4 c.child) in
+      let sign : number_of_bytes 2 b (cell_start at) ≡ c.sign = u16_part b (cell_start at) c.sign (part_first b (cell_start at) (bytes_of_number 2 c.sign) (bytes_of_number 4 c.child) first)
       (omega (arith, sound.sign, small.few)) in
-      let child : u32_at b (cell_start at + 2) ≡ c.child =
-      u32_part b (cell_start at + 2) c.child (part_rest b (cell_start at) (cell_start at + 2) (u16_bytes c.sign) (u32_bytes c.child) first (omega (arith, length-u16_bytes c.sign)))
+      let child : number_of_bytes 4 b (cell_start at + 2) ≡ c.child =
+      u32_part b (cell_start at + 2) c.child (part_rest b (cell_start at) (cell_start at + 2) (bytes_of_number 2 c.sign) (bytes_of_number 4 c.child) first (omega (arith, length-bytes 2 c.sign)))
       (omega (arith, sound.child, small.short)) in
-      let head : u32_at b (cell_start at + 6) ≡ c.head =
-      u32_part b (cell_start at + 6) c.head (part_rest b (cell_start at) (cell_start at + 6) (u16_bytes c.sign ++ u32_bytes c.child) (u32_bytes c.head) has (omega arith))
+      let head : number_of_bytes 4 b (cell_start at + 6) ≡ c.head =
+      u32_part b (cell_start at + 6) c.head (part_rest b (cell_start at) (cell_start at + 6) (bytes_of_number 2 c.sign ++ bytes_of_number 4 c.child) (bytes_of_number 4 c.head) has (omega arith))
       (omega (arith, sound.head, small.short)) in
       λ i. record { sign = sign i; child = child i; head = head i }
 
@@ -135,7 +134,7 @@ module _ (n : ℕ) (cells : List Cell) (records : List Record) (small : AreSmall
       let size : length (record_bytes r) ≡ 6 = length-record_bytes r in
       let value : slice_index b start ≡ r.value = ap (slice_index b) (sym zero) ∙ part_byte b start 0 (record_bytes r) has (omega arith) in
       let dot : slice_index b (start + 1) ≡ r.dot = part_byte b start 1 (record_bytes r) has (omega arith) in
-      let next : u32_at b (start + 2) ≡ r.next = u32_part b (start + 2) r.next (part_rest b start (start + 2) (r.value ∷ r.dot ∷ []) (u32_bytes r.next) has refl)
+      let next : number_of_bytes 4 b (start + 2) ≡ r.next = u32_part b (start + 2) r.next (part_rest b start (start + 2) (r.value ∷ r.dot ∷ []) (bytes_of_number 4 r.next) has refl)
       (omega (arith, sound.back, small.short)) in
       let here : record_at b i ≡ read_record b start = ap (λ (h : Sizes). read_record b (record_start h.cells i)) sizes_are in
       here ∙ (λ t. record { value = value t; dot = dot t; next = next t })

@@ -15,8 +15,7 @@ use Rattle.pg_outputs.specs.declared.records.Record.{Record}
 use Rattle.pg_table.specs.declared.parts.cell.Cell.{Cell}
 use Rattle.pg_table.specs.Inside.text.PackedTrie.{IsEntered}
 use Rattle.pg_table.specs.Inside.text.Rows.{HasHeads, IsPartRow, HasCell, Fills}
-use Rattle.pg_table.specs.Texts.{cell_of_table, head_in}
-use Rattle.pg_table.specs.Inside.text.Files.{table_cells}
+use Rattle.pg_table.specs.Inside.text.Files.{table_cells, cell_of_table, head_in}
 use Rattle.pg_table.specs.Inside.text.Cells.{last_sign, cell_for, unused_cell}
 use Rattle.pg_table.proofs.text.Groups.{Entry}
 use Rattle.pg_table.proofs.text.TableCells.{cell_with, cell_cases, last_sign_is}

@@ -12,9 +12,10 @@ use Rattle.std.proofs.Math.Seq.{take-add}
 use Rattle.std.proofs.lemmas.Option.{slice_get_within, slice_get-get_or, get_or_from_slice_get}
 use Rattle.pg_types.specs.Tails.{outputs_of}
 use Rattle.pg_patterns.specs.DottedSigns.{dotted_cmp}
-use Rattle.pg_patterns.specs.Texts.{strings_of, with_string}
+use Rattle.pg_patterns.specs.Texts.{strings_of}
+use Rattle.pg_patterns.specs.Inside.PatternLines.{with_string, strings_by}
 use Rattle.pg_patterns.proofs.Ordered.{sorted_at}
-use Rattle.pg_patterns.proofs.Strings.{string_once, string_ends, equal_signs}
+use Rattle.pg_patterns.proofs.Strings.{string_once, string_ends, equal_signs, strings_as}
 use Rattle.pg_cells.proofs.StringMaps.{same_string, same_itself, same_no}
 use Rattle.pg_table.specs.Inside.text.PackedTrie.{IsGroup, dot_values}
 
@@ -160,15 +161,15 @@ module _ (P : List Entry) (sorted : T (is_sorted dotted_cmp P)) (q : List ℕ) (
       let size : at + suc n ≡ end = omega (arith, group.some) in
       let moved : drop (suc n) (drop at P) ≡ drop end P = drop-drop (suc n) at P ∙ ap (λ m. drop m P) size in
       let long : length (drop at P) ≡ length P - at = length-drop at P in
-      let ends : with_string q (strings_of (drop end P)) ≡ q ∷ strings_of (drop end P) =
+      let ends : with_string q (strings_by (drop end P)) ≡ q ∷ strings_by (drop end P) =
       string_ends q (drop end P) (λ d some.
       let first : slice_get (drop end P) 0 ≡ Some (get_or (drop end P) 0 d) = slice_get-get_or (drop end P) 0 d some in
       let zero_more : end + 0 ≡ end = omega arith in
       test_other q (get_or (drop end P) 0 d).0.0 (group.ends (get_or (drop end P) 0 d) (ap (slice_get P) (sym zero_more) ∙ sym (get_drop end P 0) ∙ first))) in
-      string_once q (drop at P) n
+      strings_as (drop at P) ∙ string_once q (drop at P) n
       (λ j d low.
       let inside : j < length (drop at P) = omega (arith, group.within, group.some) in
       let here : slice_get (drop at P) j ≡ Some (get_or (drop at P) j d) = slice_get-get_or (drop at P) j d inside in
       group.each (at + j) (get_or (drop at P) j d) (omega arith) (omega (arith, group.some)) (sym (get_drop at P j) ∙ here))
-      (omega (arith, group.within, group.some)) (ap (λ l. with_string q (strings_of l)) moved ∙ ends ∙ ap (λ l. q ∷ strings_of l) (sym moved))
-      ∙ ap (λ l. q ∷ strings_of l) moved
+      (omega (arith, group.within, group.some)) (ap (λ l. with_string q (strings_by l)) moved ∙ ends ∙ ap (λ l. q ∷ strings_by l) (sym moved))
+      ∙ ap (λ l. q ∷ strings_by l) moved ∙ ap (λ qs. q ∷ qs) (sym (strings_as (drop end P)))

@@ -11,8 +11,8 @@ use Rattle.std.proofs.lemmas.List.Quantifiers.{position-Some}
 use Rattle.std.proofs.lemmas.List.Sums.{fold-append}
 use Rattle.std.proofs.lemmas.Option.{slice_get_within, slice_get-get_or, get_or_from_slice_get}
 use Rattle.pg_types.specs.Tails.{suffixes, same_pair}
-use Rattle.pg_table.specs.Inside.text.Sharing.{Lists, with_ends}
-use Rattle.pg_table.specs.Texts.{with_list, head_among}
+use Rattle.pg_table.specs.Inside.text.Sharing.{Lists, with_ends, with_list}
+use Rattle.pg_table.specs.Texts.{head_among}
 use Rattle.pg_table.proofs.text.TableCells.{find_cases}
 
 abbrev pub same_list : List (ℕ × ℕ) → List (ℕ × ℕ) → Bool

@@ -7,13 +7,15 @@ use Rattle.std.proofs.lemmas.List.Elements.{All-nil, All-cons}
 use Rattle.std.proofs.lemmas.List.Sums.{fold-append}
 use Rattle.pg_types.specs.Tails.{outputs_of, suffixes}
 use Rattle.pg_patterns.specs.Inside.PatternMaps.{is_entry}
-use Rattle.pg_patterns.specs.Texts.{strings_of, with_string}
+use Rattle.pg_patterns.specs.Texts.{strings_of}
+use Rattle.pg_patterns.specs.Inside.PatternLines.{with_string, strings_by}
+use Rattle.pg_patterns.proofs.Strings.{strings_as}
 use Rattle.pg_types.proofs.BoolFacts.{and_first, and_second}
 use Rattle.pg_patterns.specs.Values.{Patterns}
 use Rattle.pg_patterns.proofs.Sound.{entry_bounds}
 use Rattle.pg_cells.proofs.StringMaps.{same_from}
-use Rattle.pg_table.specs.Inside.text.Sharing.{Lists, with_ends}
-use Rattle.pg_table.specs.Texts.{with_list, recorded_lists}
+use Rattle.pg_table.specs.Inside.text.Sharing.{Lists, with_ends, with_list}
+use Rattle.pg_table.specs.Texts.{recorded_lists}
 use Rattle.pg_table.proofs.text.Recorded.{Among, AreOrdered, Grows, ends_taken}
 use Rattle.pg_table.proofs.text.TableRecords.{IsGood}
 
@@ -62,13 +64,13 @@ first_with r (s ∷ rs) = elim (cases_Bool (pointwise nat_eq r s)) [
 ]
 
 -- a string without a place in the strings has no values
-pub no_outputs : (P : Patterns) (q : List ℕ) → (outputs_of P q ≡ []) ⊎ IsIn q (strings_of P)
+pub no_outputs : (P : Patterns) (q : List ℕ) → (outputs_of P q ≡ []) ⊎ IsIn q (strings_by P)
 no_outputs [] q = inl refl
 no_outputs (e ∷ es) q = elim (cases_Bool (pointwise nat_eq q e.0.0)) [
-  | inl same ↦ inr (subst (λ r. IsIn r (with_string e.0.0 (strings_of es))) (sym (same_from q e.0.0 (sym (texts_ties q e.0.0) ∙ same))) (first_with e.0.0 (strings_of es)))
+  | inl same ↦ inr (subst (λ r. IsIn r (with_string e.0.0 (strings_by es))) (sym (same_from q e.0.0 (sym (texts_ties q e.0.0) ∙ same))) (first_with e.0.0 (strings_by es)))
   | inr other ↦ elim (no_outputs es q) [
     | inl none ↦ inl (ap (λ t. map (λ f. (f.0.1, f.1)) (cond t (e ∷ filter (λ f. pointwise nat_eq q f.0.0) es) (filter (λ f. pointwise nat_eq q f.0.0) es))) other ∙ none)
-    | inr some ↦ inr (in_with q e.0.0 (strings_of es) some)
+    | inr some ↦ inr (in_with q e.0.0 (strings_by es) some)
   ]
 ]
 
@@ -104,5 +106,5 @@ module _ (P : Patterns) (sound : list_all is_entry P ≡ true) where
   pub recorded_known : (q : List ℕ) → (outputs_of P q ≡ []) ⊎ Among (recorded_lists P) (outputs_of P q)
   recorded_known q = elim (no_outputs P q) [
     | inl none ↦ inl none
-    | inr some ↦ subst (λ lists. (outputs_of P q ≡ []) ⊎ Among lists (outputs_of P q)) (sym (recorded_is P)) ((strings_taken P sound [] (strings_of P) none_ordered).there q some)
+    | inr some ↦ subst (λ lists. (outputs_of P q ≡ []) ⊎ Among lists (outputs_of P q)) (sym (recorded_is P)) ((strings_taken P sound [] (strings_of P) none_ordered).there q (subst (IsIn q) (sym (strings_as P)) some))
   ]

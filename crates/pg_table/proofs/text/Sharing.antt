@@ -11,8 +11,7 @@ use Rattle.pg_outputs.specs.Inside.Records.{AreShared}
 use Rattle.pg_outputs.proofs.ListLaws.{list_of-at, list_of-old, list_of-new}
 use Rattle.pg_outputs.proofs.RecordLaws.{there_or_new}
 use Rattle.pg_table.specs.Inside.text.PackedTrie.{dot_values}
-use Rattle.pg_table.specs.Inside.text.Sharing.{Lists, value_and_dot, Shares}
-use Rattle.pg_table.specs.Texts.{with_list}
+use Rattle.pg_table.specs.Inside.text.Sharing.{Lists, value_and_dot, Shares, with_list}
 use Rattle.pg_table.proofs.text.Recorded.{test_among, with_cases, get_cases}
 use Rattle.pg_table.proofs.text.TableRecords.{turned_apart}
 

@@ -8,7 +8,8 @@ use Rattle.std.proofs.lemmas.Bool.{cases_Bool, false≢true, or_left, or_right, 
 use Rattle.std.proofs.lemmas.List.{same_from_push}
 use Rattle.std.proofs.lemmas.List.Elements.{All-append, All-cons, All-head, All-nil, All-tail, All-weaker}
 use Rattle.std.proofs.lemmas.List.Folds.{list_any-append}
-use Rattle.pg_types.specs.Placement.{Family, Families, family_at, used_cells, is_used, base_of, top}
+use Rattle.pg_types.specs.Placement.{Family, Families, family_at, used_cells, base_of, top}
+use Rattle.pg_types.specs.Inside.PlacementSteps.{is_used}
 use Rattle.pg_types.specs.Inside.Placing.{cell_of}
 use Rattle.pg_cells.specs.Inside.linked.ValuedFamilies.{ValuedFamilies}
 use Rattle.pg_cells.specs.Inside.linked.AreValuedFamilies.{AreValuedFamilies}
@@ -19,7 +20,8 @@ use Rattle.pg_cells.proofs.StringCells.{cell_parts, parts_cell, base_parts}
 use Rattle.pg_table.specs.declared.parts.cell.Cell.{Cell}
 use Rattle.pg_table.specs.declared.parts.sizes.Sizes.{Sizes}
 use Rattle.pg_table.specs.Inside.text.Cells.{last_sign, cell_for, unused_cell}
-use Rattle.pg_table.specs.Texts.{cells_in_use, cell_of_table}
+use Rattle.pg_table.specs.Texts.{cells_in_use}
+use Rattle.pg_table.specs.Inside.text.Files.{cell_of_table}
 use Rattle.pg_table.proofs.parts.FormLaws.{IsSoundCell}
 
 -- the first element that passes a test does so, and where none is found none passes

@@ -16,7 +16,8 @@ use Rattle.pg_outputs.specs.Lists.{list_of}
 use Rattle.pg_outputs.proofs.ListLaws.{list_of-at, list_of-zero}
 use Rattle.pg_table.specs.Inside.view.Greatest.{value_in_list}
 use Rattle.pg_table.specs.Inside.text.Sharing.{Lists, value_and_dot, Shares}
-use Rattle.pg_table.specs.Texts.{head_among, record_of}
+use Rattle.pg_table.specs.Texts.{head_among}
+use Rattle.pg_table.specs.Inside.text.Files.{record_of}
 use Rattle.pg_table.proofs.parts.FormLaws.{IsSoundRecord}
 use Rattle.pg_table.proofs.text.Recorded.{Among, AreOrdered, head_cases, head_within}
 

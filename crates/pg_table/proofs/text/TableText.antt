@@ -25,12 +25,13 @@ use Rattle.pg_table.specs.Inside.view.Greatest.{value_in_list}
 use Rattle.pg_table.proofs.laws.Greatest.{entry_as}
 use Rattle.pg_table.specs.Inside.text.PackedTrie.{IsPacked, IsEntered}
 use Rattle.pg_table.specs.Inside.text.Sharing.{value_and_dot}
-use Rattle.pg_table.specs.Texts.{recorded_lists, head_in, record_of, cell_of_table, table_text}
-use Rattle.pg_table.specs.Inside.text.Files.{table_cells, table_records, file_of}
+use Rattle.pg_table.specs.Texts.{recorded_lists, table_text}
+use Rattle.pg_table.specs.Inside.text.Files.{table_cells, table_records, file_of, cell_of_table, head_in, record_of}
 use Rattle.pg_table.proofs.parts.FormLaws.{IsSoundCell, IsSoundRecord, form_from}
 use Rattle.pg_table.proofs.text.FileParts.{AreSmall, sizes_with, sizes_are, cell_is, file_sound, records_are_those, length-file_of}
 use Rattle.pg_table.proofs.text.Recorded.{head_within}
 use Rattle.pg_table.proofs.text.RecordedStrings.{recorded_ordered, recorded_known}
+use Rattle.pg_table.proofs.text.TableBytes.{text_parts}
 use Rattle.pg_table.proofs.text.TableCells.{cell_within, cells_sound}
 use Rattle.pg_table.proofs.view.TableLookups.{HasCells, lookup_with, lookup_without}
 use Rattle.pg_table.proofs.text.TableRecords.{sound_record, listed, entry_is}
@@ -46,8 +47,7 @@ module _ (n : ℕ) (P : Patterns) (h : ValuedFamilies ℕ) (sound : IsPatternMap
   cells_are = ap (λ fs. map (cell_of_table fs (head_in P)) (range_with_len 0 (top fs + 1))) (sym packed.families)
 
   pub text_is : table_text n P ≡ file_of n cells records
-  unfolding table_text
-  text_is = ap (λ c. file_of n c records) cells_are
+  text_is = sym (text_parts n P sound) ∙ ap (λ c. file_of n c records) cells_are
 
   length-cells : length cells ≡ top h.families + 1
   length-cells = length-map-range_with_len (cell_of_table h.families (head_in P)) 0 (top h.families + 1)
@@ -130,9 +130,8 @@ pub length-table_cells : (n : ℕ) (P : Patterns) (h : ValuedFamilies ℕ) → I
 length-table_cells n P h sound packed = ap length (cells_are n P h sound packed) ∙ length-cells n P h sound packed
 
 -- the text by its parts
-pub text_of : (n : ℕ) (P : Patterns) (cs : List Cell) (rs : List Record) (text : List ℕ) → text ≡ file_of n cs rs → cs ≡ table_cells n P → rs ≡ table_records P → text ≡ table_text n P
-unfolding table_text
-text_of n P cs rs text is cells_is records_is = is ∙ ap (λ c. file_of n c rs) cells_is ∙ ap (file_of n (table_cells n P)) records_is
+pub text_of : (n : ℕ) (P : Patterns) (cs : List Cell) (rs : List Record) (text : List ℕ) → IsPatternMap P → text ≡ file_of n cs rs → cs ≡ table_cells n P → rs ≡ table_records P → text ≡ table_text n P
+text_of n P cs rs text sound is cells_is records_is = is ∙ ap (λ c. file_of n c rs) cells_is ∙ ap (file_of n (table_cells n P)) records_is ∙ text_parts n P sound
 
 -- a result that is the text, where there is one, is a table that gives the values of the patterns
 module _ (n : ℕ) (P : Patterns) (h : ValuedFamilies ℕ) (records : List Record) (entered : IsEntered n P h records) (some : 1 ≤ n) (few : n ≤ SIGNS_MAX) where

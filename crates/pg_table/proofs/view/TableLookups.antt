@@ -13,7 +13,7 @@ use Rattle.pg_table.specs.declared.parts.cell.Cell.{Cell}
 use Rattle.pg_table.specs.Forms.{sizes_of, cell_at}
 use Rattle.pg_table.specs.Lookups.{cell_has_sign, lookup, lookup_from}
 use Rattle.pg_table.specs.Inside.view.ListsOf.{list_in}
-use Rattle.pg_table.specs.Texts.{cell_of_table}
+use Rattle.pg_table.specs.Inside.text.Files.{cell_of_table}
 use Rattle.pg_table.specs.Inside.text.Cells.{last_sign, cell_for, unused_cell}
 use Rattle.pg_table.proofs.view.FileRecords.{list_in-zero}
 use Rattle.pg_table.proofs.text.TableCells.{cell_with, cell_cases, cell_within, cell_at_base, last_sign_is}

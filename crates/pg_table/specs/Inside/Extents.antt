@@ -5,7 +5,7 @@ use Rattle.pg_types.specs.declared.limits.TheConstants.{SIGNS_MAX}
 use Rattle.pg_outputs.specs.declared.records.Record.{Record}
 use Rattle.pg_table.specs.declared.parts.sizes.Sizes.{Sizes}
 use Rattle.pg_types.specs.declared.packed_table.TheConstants.{CELL_LEN, HEAD_LEN, RECORD_LEN, TABLE_MAX}
-use Rattle.pg_table.specs.Numbers.{u32_at}
+use Rattle.pg_table.specs.Numbers.{number_of_bytes}
 
 -- where a cell begins
 abbrev pub cell_start : ℕ → ℕ
@@ -21,7 +21,7 @@ read_record b start =
     record {
       value = slice_index b start;
       dot = slice_index b (start + 1);
-      next = u32_at b (start + 2);
+      next = number_of_bytes 4 b (start + 2);
     }
 
 -- the length of a file with these sizes

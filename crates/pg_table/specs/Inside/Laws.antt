@@ -1,9 +1,9 @@
 -- What a table that was packed from patterns means.
 use Rattle.std.specs.Prelude.{◌≡◌, ℕ, List}
+use Rattle.pg_translate.specs.Alphabets.{Alphabet}
 use Rattle.pg_dict.specs.Word.{Word}
 use Rattle.pg_patterns.specs.Values.{Patterns, value_of, value_at}
 use Rattle.pg_patterns.specs.Inside.PatternMaps.{IsPatternMap}
-use Rattle.pg_select.specs.CountedPositions.{Minima}
 use Rattle.pg_select.specs.Sums.{totals}
 use Rattle.pg_table.specs.Lookups.{table_entry, table_value, table_totals}
 
@@ -19,5 +19,5 @@ ValuesArePacked = (P : Patterns) (b : List ℕ)
 -- bytes that do so give each word list the totals of the patterns
 abbrev pub TotalsArePacked : Type 0
 TotalsArePacked = (P : Patterns) (b : List ℕ)
-    → IsPatternMap P → HasEntries b P → (m : Minima) (words : List Word)
+    → IsPatternMap P → HasEntries b P → (m : Alphabet) (words : List Word)
     → table_totals m words b ≡ totals m words P

@@ -1,9 +1,11 @@
 //! A cell of a packed table.
-ghost use Rattle.std.specs.Prelude.{◌≡◌, ◌+◌, ◌≤◌, length};
+ghost use Rattle.std.specs.Prelude.{◌≡◌, ◌+◌, ◌≤◌, ◌||◌, ◌&&◌, not, nat_lt, nat_eq, length};
 ghost use Rattle.pg_types.specs.declared.packed_table.TheConstants.{CELL_LEN};
-ghost use Rattle.pg_table.specs.Forms.{cell_at, is_sound_cell};
+ghost use Rattle.pg_table.specs.Forms.{cell_at};
+ghost use Rattle.pg_table.specs.Inside.Breaches.{cell_breach};
 ghost use Rattle.pg_table.specs.Inside.Extents.{cell_start};
 
+use crate::parts::breach::CellRule;
 use crate::parts::numbers::{u16_at, u32_at};
 use crate::parts::sizes::Sizes;
 use pg_types::Sign;
@@ -42,14 +44,37 @@ impl Cell {
         }
     }
 
-    /// Whether the cell may stand at its place.
-    pub fn is_sound(&self, at: u32, sizes: &Sizes) -> bool
-        ensures { result ≡ is_sound_cell sizes.now at self.now }
+    /// Whether the cell has its own number as its sign, where it stands at the root.
+    fn has_own_sign(&self, at: u32, sizes: &Sizes) -> bool
+        ensures { result ≡ (nat_lt sizes.now.signs at || nat_eq self.now.sign at) }
     {
-        (sizes.signs < at || u32::from(self.sign) == at)
-            && (self.sign != 0 || self.child == 0 && self.head == 0)
-            && u32::from(self.sign) <= sizes.signs
-            && self.child < sizes.cells
-            && self.head <= sizes.records
+        sizes.signs < at || u32::from(self.sign) == at
+    }
+
+    /// Whether the cell is all 0, where it has no sign.
+    fn is_clear(&self) -> bool
+        ensures { result ≡ (not (nat_eq self.now.sign 0)
+            || (nat_eq self.now.child 0 && nat_eq self.now.head 0)) }
+    {
+        self.sign != 0 || self.child == 0 && self.head == 0
+    }
+
+    /// The first rule that the cell breaks at its place.
+    pub fn breach(&self, at: u32, sizes: &Sizes) -> Option<CellRule>
+        ensures { result ≡ cell_breach sizes.now at self.now }
+    {
+        if !self.has_own_sign(at, sizes) {
+            Some(CellRule::OwnSign)
+        } else if !self.is_clear() {
+            Some(CellRule::Unused)
+        } else if u32::from(self.sign) > sizes.signs {
+            Some(CellRule::Sign)
+        } else if self.child >= sizes.cells {
+            Some(CellRule::Child)
+        } else if self.head > sizes.records {
+            Some(CellRule::Head)
+        } else {
+            None
+        }
     }
 }

@@ -1,9 +1,11 @@
 //! A record of a packed table.
-ghost use Rattle.std.specs.Prelude.{◌≡◌, ◌+◌, ◌≤◌, length};
+ghost use Rattle.std.specs.Prelude.{◌≡◌, ◌+◌, ◌≤◌, ◌&&◌, nat_le, length};
 ghost use Rattle.pg_types.specs.declared.packed_table.TheConstants.{RECORD_LEN};
-ghost use Rattle.pg_table.specs.Forms.{is_sound_record};
+ghost use Rattle.pg_types.specs.declared.limits.TheConstants.{LEVEL_MAX};
+ghost use Rattle.pg_table.specs.Inside.Breaches.{record_breach};
 ghost use Rattle.pg_table.specs.Inside.Extents.{record_start, read_record};
 
+use crate::parts::breach::RecordRule;
 use crate::parts::cell::cell_start;
 use crate::parts::numbers::u32_at;
 use pg_outputs::Record;
@@ -29,12 +31,24 @@ pub fn read_record(bytes: &[u8], start: usize) -> Record
     }
 }
 
-/// Whether the record with the number `i`, counted from 0, may stand there.
-pub fn is_sound_record(i: u32, entry: Record) -> bool
-    ensures { result ≡ is_sound_record i entry }
+/// Whether a record may have this value.
+fn is_value(value: u8) -> bool
+    ensures { result ≡ (nat_le 1 value && nat_le value LEVEL_MAX) }
 {
-    1 <= entry.value
-        && entry.value <= LEVEL_MAX
-        && usize::from(entry.dot) <= PATTERN_SIGNS_MAX
-        && entry.next <= u64::from(i)
+    1 <= value && value <= LEVEL_MAX
+}
+
+/// The first rule that the record with the number `i`, counted from 0, breaks there.
+pub fn record_breach(i: u32, entry: Record) -> Option<RecordRule>
+    ensures { result ≡ record_breach i entry }
+{
+    if !is_value(entry.value) {
+        Some(RecordRule::Value)
+    } else if usize::from(entry.dot) > PATTERN_SIGNS_MAX {
+        Some(RecordRule::Dot)
+    } else if entry.next > u64::from(i) {
+        Some(RecordRule::Back)
+    } else {
+        None
+    }
 }

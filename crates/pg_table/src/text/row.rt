@@ -10,8 +10,7 @@ ghost use Rattle.pg_patterns.specs.Inside.PatternMaps.{SignsUpTo};
 ghost use Rattle.pg_cells.specs.Inside.linked.AreValuedFamilies.{AreValuedFamilies};
 ghost use Rattle.pg_table.specs.Inside.text.PackedTrie.{IsEntered};
 ghost use Rattle.pg_table.specs.Inside.text.Rows.{HasHeads, IsPartRow, Fills, FillsSigns};
-ghost use Rattle.pg_table.specs.Texts.{head_in};
-ghost use Rattle.pg_table.specs.Inside.text.Files.{table_cells};
+ghost use Rattle.pg_table.specs.Inside.text.Files.{table_cells, head_in};
 
 use crate::parts::cell::Cell;
 use crate::text::entering::PackedTrie;

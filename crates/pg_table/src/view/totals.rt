@@ -4,7 +4,6 @@ ghost use Rattle.pg_types.specs.Inside.Limits.{sums_limit};
 ghost use Rattle.pg_dict.specs.Inside.SoundWords.{SignsAtMost};
 ghost use Rattle.pg_table.specs.Forms.{sizes_of};
 ghost use Rattle.pg_table.specs.Lookups.{table_totals};
-ghost use Rattle.pg_select.specs.CountedPositions.{minima_of};
 ghost use Rattle.pg_select.specs.Inside.SumSteps.{sum_of};
 
 use crate::view::TableView;
@@ -18,7 +17,7 @@ use pg_types::Totals;
 /// positions in reach that are found, that are errors and that are missed. It takes no memory.
 pub fn table_totals(view: &TableView<'_>, dictionary: &Dictionary, table: &Table) -> Totals
     requires { SignsAtMost (sizes_of view.now).signs dictionary.now }
-    ensures value { result ≡ table_totals (minima_of table.now) dictionary.now view.now }
+    ensures value { result ≡ table_totals table.now dictionary.now view.now }
     ensures small { sum_of result < sums_limit }
 {
     let mut found = WordState::new();

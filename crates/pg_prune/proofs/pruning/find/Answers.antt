@@ -1,13 +1,12 @@
 use Rattle.std.proofs.Common.{◌≡◌, ◌∙◌, map, length, ap}
 use Rattle.std.proofs.lemmas.List.{length-map}
-use Rattle.pg_select.specs.CountedPositions.{minima_of}
 use Rattle.pg_prune.specs.Positions.{positions_in_reach}
-use Rattle.pg_prune.specs.Prunes.{need_at}
+use Rattle.pg_prune.specs.Inside.positions.PositionInReach.{need_at}
 use Rattle.pg_prune.proofs.pruning.find.Goals as goal
 
 pub settle-requires : goal.settle-requires
 settle-requires g c =
-    let m = minima_of c.args.table.now in
+    let m = c.args.table.now in
     let ws = c.args.dictionary.now in
     let xs = positions_in_reach m ws in
     let stands = ap (map (λ l. l.items)) c.as_slice-standing.ensures.value ∙ c.in_ok-lists.ensures in
@@ -17,7 +16,7 @@ settle-requires g c =
 
 pub returns : goal.returns
 returns g c =
-    let m = minima_of c.args.table.now in
+    let m = c.args.table.now in
     let ws = c.args.dictionary.now in
     let xs = positions_in_reach m ws in
     let stands = ap (map (λ l. l.items)) c.as_slice-standing.ensures.value ∙ c.in_ok-lists.ensures in

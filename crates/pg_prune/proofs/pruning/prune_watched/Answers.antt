@@ -2,7 +2,6 @@ use Rattle.std.proofs.Common.{◌≤◌, ◌+◌, refl, sym, subst}
 use Rattle.std.proofs.lemmas.Result.{IfOk-weaker}
 use Rattle.std.specs.List.{All}
 use Rattle.pg_translate.specs.Alphabets.{letters_of}
-use Rattle.pg_select.specs.CountedPositions.{minima_of}
 use Rattle.pg_prune.specs.Prunes.{Pruning}
 use Rattle.pg_prune.specs.Inside.Prunings.{IsPruning}
 use Rattle.pg_prune.proofs.pruning.PrunedLaws.{pruned_all, pruned_part, pruned_alike, pruned_least, pruned_needs}
@@ -10,7 +9,7 @@ use Rattle.pg_prune.proofs.pruning.prune_watched.Goals as goal
 
 pub returns : goal.returns
 returns g c =
-    let m = minima_of c.args.table.now in
+    let m = c.args.table.now in
     let ws = c.args.dictionary.now in
     let P = c.args.patterns.now in
     let n = letters_of c.args.table.now + 1 in

@@ -2,7 +2,7 @@ use Rattle.std.proofs.Common.{◌≡◌, ◌≤◌, ◌-◌, ◌∙◌, map, len
 use Rattle.pg_patterns.specs.Values.{Patterns}
 use Rattle.pg_patterns.specs.Inside.PatternMaps.{IsPatternMap}
 use Rattle.pg_prune.specs.Positions.{positions_in_reach}
-use Rattle.pg_prune.specs.Prunes.{pruning_of, needs, rounds, Pruning}
+use Rattle.pg_prune.specs.Prunes.{pruning_of, needs, Pruning, rounds_from}
 use Rattle.pg_prune.specs.Inside.Needs.{HasNeeds}
 use Rattle.pg_prune.specs.Inside.rounds.Picks.{picked_entries}
 use Rattle.pg_prune.proofs.pruning.PrunedLaws.{pruned_map, pruned_needs, pruned_few}
@@ -48,7 +48,7 @@ new-requires g c =
     let stands = map (λ l. l.items) c.args.standing.now in
     let ready = with_kept xs P stands c.all_rounds.new.holders c.in_ok-finished.finished.kept.items K c.as_slice-kept.ensures.value done.ready in
     let own : c.in_ok-needs.needs.items ≡ needs xs (picked_entries P K) = c.in_ok-needs.ensures xs c.requires.1.1.0 ready in
-    let rounded : rounds xs P ≡ record { patterns = picked_entries P K; count = c.in_ok-finished.finished.count } = done.done
+    let rounded : rounds_from xs P 1 (length P) P ≡ (picked_entries P K, c.in_ok-finished.finished.count) = done.done
     ∙ ap (λ ks. to_rounds (picked_entries P ks) c.in_ok-finished.finished.count) (sym c.as_slice-kept.ensures.value) in
     let is = finish m ws P K c.in_ok-needs.needs.items c.in_ok-finished.finished.count rounded own c.in_ok-patterns.patterns
     (c.len-count.result - length K) c.in_ok-patterns.ensures (ap (λ n. n - length K) c.len-count.ensures.value) in
@@ -63,7 +63,7 @@ returns g c m ws lie start =
     let stands = map (λ l. l.items) c.args.standing.now in
     let ready = with_kept xs P stands c.all_rounds.new.holders c.in_ok-finished.finished.kept.items K c.as_slice-kept.ensures.value done.ready in
     let own : c.in_ok-needs.needs.items ≡ needs xs (picked_entries P K) = c.in_ok-needs.ensures xs lie ready in
-    let rounded : rounds xs P ≡ record { patterns = picked_entries P K; count = c.in_ok-finished.finished.count } = done.done
+    let rounded : rounds_from xs P 1 (length P) P ≡ (picked_entries P K, c.in_ok-finished.finished.count) = done.done
     ∙ ap (λ ks. to_rounds (picked_entries P ks) c.in_ok-finished.finished.count) (sym c.as_slice-kept.ensures.value) in
     let is = finish m ws P K c.in_ok-needs.needs.items c.in_ok-finished.finished.count rounded own c.in_ok-patterns.patterns
     (c.len-count.result - length K) c.in_ok-patterns.ensures (ap (λ n. n - length K) c.len-count.ensures.value) in

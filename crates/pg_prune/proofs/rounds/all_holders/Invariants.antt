@@ -1,5 +1,5 @@
 use Rattle.std.proofs.Common.{List, map, take}
-use Rattle.pg_prune.specs.Positions.{PositionInReach}
+use Rattle.pg_prune.specs.Inside.positions.PositionInReach.{PositionInReach}
 use Rattle.pg_prune.specs.Inside.rounds.Picks.{ListsPositions}
 use Rattle.pg_prune.specs.Inside.rounds.Turns.{IsTallied}
 use Rattle.pg_prune.proofs.rounds.all_holders.Given as goal

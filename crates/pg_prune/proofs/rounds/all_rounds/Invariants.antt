@@ -1,5 +1,5 @@
 use Rattle.std.proofs.Common.{◌+◌, ◌≤◌, List, map, length}
-use Rattle.pg_prune.specs.Positions.{PositionInReach}
+use Rattle.pg_prune.specs.Inside.positions.PositionInReach.{PositionInReach}
 use Rattle.pg_prune.specs.Inside.rounds.Picks.{HasAllEntries}
 use Rattle.pg_prune.proofs.rounds.AllRounds.{RoundsSoFar}
 use Rattle.pg_prune.proofs.rounds.all_rounds.Given as goal

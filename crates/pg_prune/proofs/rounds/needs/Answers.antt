@@ -1,7 +1,7 @@
 use Rattle.std.proofs.lemmas.Result.{IfOk-from_err}
 use Rattle.std.proofs.Common.{◌≡◌, ◌<◌, ◌+◌, ◌∙◌, ◌∷◌, ◌++◌, [], length, get_or, take, drop, sym, subst, ap, arith}
 use Rattle.std.proofs.lemmas.List.{length-map, append-nil}
-use Rattle.pg_prune.specs.Prunes.{need_at}
+use Rattle.pg_prune.specs.Inside.positions.PositionInReach.{need_at}
 use Rattle.pg_prune.specs.Inside.Findings.{need_list, first_difference}
 use Rattle.pg_prune.specs.Inside.positions.EntryPositions.{positions_of_entry}
 use Rattle.pg_prune.specs.Inside.rounds.Turns.{with_entry, without_entry}

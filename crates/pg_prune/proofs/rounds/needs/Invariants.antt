@@ -1,6 +1,5 @@
 use Rattle.std.proofs.Common.{◌≡◌, List, map}
-use Rattle.pg_prune.specs.Positions.{PositionInReach}
-use Rattle.pg_prune.specs.Prunes.{need_at}
+use Rattle.pg_prune.specs.Inside.positions.PositionInReach.{PositionInReach, need_at}
 use Rattle.pg_prune.specs.Inside.rounds.Picks.{IsKeptSoFar}
 use Rattle.pg_prune.proofs.rounds.NeedSteps.{NeedsSoFar}
 use Rattle.pg_prune.proofs.rounds.needs.Given as goal

@@ -1,5 +1,5 @@
 use Rattle.std.proofs.Common.{drop, List, map}
-use Rattle.pg_prune.specs.Positions.{PositionInReach}
+use Rattle.pg_prune.specs.Inside.positions.PositionInReach.{PositionInReach}
 use Rattle.pg_prune.specs.Inside.rounds.Picks.{IsKeptSoFar}
 use Rattle.pg_prune.proofs.rounds.RoundSteps.{Rounding}
 use Rattle.pg_prune.proofs.rounds.round.Given as goal

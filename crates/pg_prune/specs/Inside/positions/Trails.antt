@@ -3,10 +3,10 @@ use Rattle.std.specs.Prelude.{◌≡◌, ◌<◌, ◌≤◌, ℕ, ◌+◌, ◌-�
 use Rattle.std.specs.List.{range_with_len, filter}
 use Rattle.std.specs.Option.{option_map_or}
 use Rattle.pg_types.specs.declared.limits.TheConstants.{FILE_MAX}
+use Rattle.pg_translate.specs.Alphabets.{Alphabet}
 use Rattle.pg_translate.specs.Reach.{reach}
 use Rattle.pg_dict.specs.Word.{Word}
 use Rattle.pg_patterns.specs.Values.{stands_at}
-use Rattle.pg_select.specs.CountedPositions.{Minima}
 use Rattle.pg_prune.specs.declared.positions.trail.Start.{Start}
 
 -- the signs of the word with this number, counted from 0
@@ -18,7 +18,7 @@ abbrev pub count_between : Option (ℕ × ℕ) → ℕ
 count_between r = option_map_or (λ ends. ends.1 + 1 - ends.0) r 0
 
 -- how many positions in reach a word with so many signs has
-abbrev pub reach_count : Minima → ℕ → ℕ
+abbrev pub reach_count : Alphabet → ℕ → ℕ
 reach_count m len = count_between (reach m.left m.right len)
 
 -- a start at a sign of a word
@@ -30,13 +30,13 @@ abbrev pub starts_in : ℕ → ℕ → ℕ → List Start
 starts_in word before len = map (start_at word before) (range_with_len 0 len)
 
 -- each sign of words as a start; the first word has this number, with so many positions before it
-abbrev pub starts_from : Minima → ℕ → ℕ → List Word → List Start
+abbrev pub starts_from : Alphabet → ℕ → ℕ → List Word → List Start
 starts_from m word before [] = []
 starts_from m word before (w ∷ ws) = starts_in word before (length w.signs)
     ++ starts_from m (word + 1) (before + reach_count m (length w.signs)) ws
 
 -- each sign of all words as a start
-abbrev pub all_starts : Minima → List Word → List Start
+abbrev pub all_starts : Alphabet → List Word → List Start
 all_starts m ws = starts_from m 0 0 ws
 
 -- what is known of a start
@@ -78,6 +78,6 @@ position_number (Some ends) before p = if nat_le ends.0 p && nat_le p ends.1
     then Some (before + (p - ends.0)) else None
 
 -- the number of the position at which the dot of a string stands
-abbrev pub number_at_dot : Minima → List Word → ℕ → Start → Option ℕ
+abbrev pub number_at_dot : Alphabet → List Word → ℕ → Start → Option ℕ
 number_at_dot m ws dot s = position_number
     (reach m.left m.right (length (signs_of_word ws s.word))) s.before (s.at + dot)

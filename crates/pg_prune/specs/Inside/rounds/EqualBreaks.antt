@@ -2,7 +2,7 @@
 use Rattle.std.specs.Prelude.{Bool, List}
 use Rattle.std.specs.List.{list_all}
 use Rattle.pg_patterns.specs.Values.{Patterns}
-use Rattle.pg_prune.specs.Positions.{PositionInReach}
+use Rattle.pg_prune.specs.Inside.positions.PositionInReach.{PositionInReach}
 use Rattle.pg_prune.specs.Prunes.{break_alike_at}
 
 -- two maps break alike at all positions

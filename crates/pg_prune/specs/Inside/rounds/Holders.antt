@@ -3,7 +3,7 @@ use Rattle.std.specs.Prelude.{ℕ, ◌+◌, ◌-◌, ◌%◌, Bool, ◌&&◌, na
 use Rattle.std.specs.List.{range_with_len}
 use Rattle.pg_types.specs.declared.limits.TheConstants.{LEVEL_MAX}
 use Rattle.pg_patterns.specs.Values.{Patterns}
-use Rattle.pg_prune.specs.Positions.{PositionInReach}
+use Rattle.pg_prune.specs.Inside.positions.PositionInReach.{PositionInReach}
 use Rattle.pg_prune.specs.Inside.positions.EntryPositions.{stands}
 
 -- how many entries of a map stand at a position and have this value

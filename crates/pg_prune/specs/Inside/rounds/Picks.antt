@@ -3,8 +3,8 @@ use Rattle.std.specs.Prelude.{◌≡◌, ℕ, ◌<◌, true, List, [], map, leng
 use Rattle.std.specs.List.{All, list_all}
 use Rattle.pg_patterns.specs.Values.{Patterns}
 use Rattle.pg_patterns.specs.Inside.PatternMaps.{is_entry}
-use Rattle.pg_prune.specs.Positions.{PositionInReach}
-use Rattle.pg_prune.specs.Prunes.{round}
+use Rattle.pg_prune.specs.Inside.positions.PositionInReach.{PositionInReach}
+use Rattle.pg_prune.specs.Prunes.{round_from}
 use Rattle.pg_prune.specs.Inside.rounds.EqualBreaks.{break_alike}
 use Rattle.pg_prune.specs.Inside.positions.EntryPositions.{positions_of_entries}
 use Rattle.pg_prune.specs.Inside.rounds.Turns.{IsTallied}
@@ -36,7 +36,7 @@ pub record IsKeptSoFar (positions : List PositionInReach) (P : Patterns)
 pub record IsOneRound (positions : List PositionInReach) (P : Patterns)
     (stands : List (List ℕ)) (holders : List (List ℕ)) (kept stay : List ℕ) : Type 0 where
   pub next : IsKeptSoFar positions P stands holders stay
-  pub done : picked_entries P stay ≡ round positions P (picked_entries P kept)
+  pub done : picked_entries P stay ≡ round_from positions P [] (picked_entries P kept)
 
 -- before all rounds: the holders are those of all entries
 pub record HasAllEntries (positions : List PositionInReach) (P : Patterns)

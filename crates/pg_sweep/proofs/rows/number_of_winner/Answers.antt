@@ -2,7 +2,7 @@ use Rattle.std.proofs.Common.{◌≡◌, ◌+◌, true, false, [], drop, sym, ap
 use Rattle.std.proofs.lemmas.List.{length-map, drop_all}
 use Rattle.pg_sweep.specs.declared.rows.SweepRow.{SweepRow}
 use Rattle.std.proofs.lemmas.Bool.{lt-ltb, le-ltb}
-use Rattle.pg_sweep.specs.Sweeps.{costs_of}
+use Rattle.pg_sweep.specs.Promises.{costs_of}
 use Rattle.pg_sweep.specs.Inside.Least.{winner_from, first_least}
 use Rattle.pg_sweep.proofs.Steps.{costs_from, looked_at}
 use Rattle.pg_sweep.proofs.Winners.{winner_agrees}

@@ -1,5 +1,5 @@
 use Rattle.std.proofs.Common.{◌≡◌, ◌+◌, drop}
-use Rattle.pg_sweep.specs.Sweeps.{costs_of}
+use Rattle.pg_sweep.specs.Promises.{costs_of}
 use Rattle.pg_sweep.specs.Inside.Least.{winner_from, first_least}
 use Rattle.pg_sweep.proofs.rows.number_of_winner.Given as goal
 

@@ -5,7 +5,8 @@ use Rattle.std.proofs.lemmas.Result.{IfOk-from_err}
 use Rattle.pg_types.specs.Parameters.{Parameters}
 use Rattle.pg_types.specs.declared.marks.Totals.{Totals}
 use Rattle.pg_sweep.specs.declared.rows.SweepRow.{SweepRow}
-use Rattle.pg_sweep.specs.Sweeps.{Terms, set_row, costs_of}
+use Rattle.pg_sweep.specs.Sweeps.{Terms, set_row}
+use Rattle.pg_sweep.specs.Promises.{costs_of}
 use Rattle.pg_sweep.specs.Winners.{winner_of}
 use Rattle.pg_sweep.specs.Inside.RowsAndWinner.{RowsAndWinner}
 use Rattle.pg_sweep.proofs.Steps.{map_more}

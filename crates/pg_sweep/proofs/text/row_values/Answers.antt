@@ -5,8 +5,7 @@ use Rattle.std.proofs.lemmas.Result.{IfOk-from_err}
 use Rattle.serde_json.specs.Data.{Data}
 use Rattle.serde_json.specs.View.{view}
 use Rattle.pg_sweep.specs.declared.rows.SweepRow.{SweepRow}
-use Rattle.pg_sweep.specs.Files.{row_data}
-use Rattle.pg_sweep.specs.Inside.Rows.{rows_data}
+use Rattle.pg_sweep.specs.Inside.SweepData.{row_data, rows_data}
 use Rattle.pg_sweep.proofs.Steps.{data_more}
 use Rattle.pg_sweep.proofs.text.row_values.Goals as goal
 

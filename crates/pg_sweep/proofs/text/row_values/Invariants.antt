@@ -1,6 +1,6 @@
 use Rattle.std.proofs.Common.{◌≡◌, map, take}
 use Rattle.serde_json.specs.View.{view}
-use Rattle.pg_sweep.specs.Inside.Rows.{rows_data}
+use Rattle.pg_sweep.specs.Inside.SweepData.{rows_data}
 use Rattle.pg_sweep.proofs.text.row_values.Given as goal
 
 abbrev pub invariant-rows : goal.invariant-rows

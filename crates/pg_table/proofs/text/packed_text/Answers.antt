@@ -41,7 +41,7 @@ file_of-requires-clause-cells c =
 
 pub returns-clause-text : goal.returns-clause-text
 returns-clause-text c =
-    text_of c.args.signs c.args.patterns.now c.deref.result.now c.args.packed.now.outputs c.in_ok-text.text.items c.in_ok-text.ensures
+    text_of c.args.signs c.args.patterns.now c.deref.result.now c.args.packed.now.outputs c.in_ok-text.text.items c.requires.entered.sound c.in_ok-text.ensures
     (c.deref.ensures.value ∙ c.in_ok-row.ensures) c.requires.entered.records_are
 
 pub returns-clause-short : goal.returns-clause-short

@@ -3,19 +3,19 @@ use Rattle.std.specs.List.{flat_map}
 use Rattle.std.proofs.lemmas.List.{append-nil, take_more, take_all, flat_map_more}
 use Rattle.pg_table.specs.declared.parts.cell.Cell.{Cell}
 use Rattle.pg_table.specs.Inside.text.Cells.{unused_cell}
-use Rattle.pg_table.specs.Numbers.{u16_bytes, u32_bytes}
-use Rattle.pg_table.specs.Texts.{cell_bytes}
+use Rattle.pg_table.specs.Numbers.{bytes_of_number}
+use Rattle.pg_table.specs.Inside.text.Files.{cell_bytes}
 use Rattle.pg_table.proofs.text.push_cells.Goals as goal
 
 -- one more cell is behind the text
 more : (old mid first second new : List ℕ) (cells : List Cell) (i : ℕ) (x : Cell) → mid ≡ old ++ flat_map cell_bytes (take i cells)
-    → take (i + 1) cells ≡ take i cells ++ x ∷ [] → first ≡ mid ++ u16_bytes x.sign → second ≡ first ++ u32_bytes x.child → new ≡ second ++ u32_bytes x.head
+    → take (i + 1) cells ≡ take i cells ++ x ∷ [] → first ≡ mid ++ bytes_of_number 2 x.sign → second ≡ first ++ bytes_of_number 4 x.child → new ≡ second ++ bytes_of_number 4 x.head
     → new ≡ old ++ flat_map cell_bytes (take (i + 1) cells)
 more old mid first second new cells i x before front sign child head =
     head
-    ∙ ap (λ (l : List ℕ). l ++ u32_bytes x.head) (child ∙ ap (λ (l : List ℕ). l ++ u32_bytes x.child) sign)
-    ∙ ap (λ (l : List ℕ). l ++ u32_bytes x.head) (append_assoc mid (u16_bytes x.sign) (u32_bytes x.child))
-    ∙ append_assoc mid (u16_bytes x.sign ++ u32_bytes x.child) (u32_bytes x.head)
+    ∙ ap (λ (l : List ℕ). l ++ bytes_of_number 4 x.head) (child ∙ ap (λ (l : List ℕ). l ++ bytes_of_number 4 x.child) sign)
+    ∙ ap (λ (l : List ℕ). l ++ bytes_of_number 4 x.head) (append_assoc mid (bytes_of_number 2 x.sign) (bytes_of_number 4 x.child))
+    ∙ append_assoc mid (bytes_of_number 2 x.sign ++ bytes_of_number 4 x.child) (bytes_of_number 4 x.head)
     ∙ ap (λ (l : List ℕ). l ++ cell_bytes x) before
     ∙ flat_map_more cell_bytes old (take i cells) x
     ∙ ap (λ (l : List Cell). old ++ flat_map cell_bytes l) (sym front)

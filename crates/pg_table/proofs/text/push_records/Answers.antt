@@ -3,8 +3,8 @@ use Rattle.std.specs.List.{flat_map}
 use Rattle.std.proofs.lemmas.List.{take_more, take_all, flat_map_more}
 use Rattle.std.proofs.lemmas.Option.{get_or_from_slice_get, slice_get_within}
 use Rattle.pg_outputs.specs.declared.records.Record.{Record}
-use Rattle.pg_table.specs.Numbers.{u32_bytes}
-use Rattle.pg_table.specs.Texts.{record_bytes}
+use Rattle.pg_table.specs.Numbers.{bytes_of_number}
+use Rattle.pg_table.specs.Inside.text.Files.{record_bytes}
 use Rattle.pg_table.proofs.text.push_records.Goals as goal
 use Rattle.pg_table.proofs.text.push_records.Goals.{in-Some+in_ok-push+in_ok-push-2+in_ok-push_u32, in_default}
 
@@ -25,7 +25,7 @@ loop-head-preserved c = elim c.match-first.branch [
   | in-Some+in_ok-push+in_ok-push-2+in_ok-push_u32 w ↦
       let there = w.in-Some.ensures.at_head in
       let mid : List ℕ = c.loop-head.text.items in
-      let rest : List ℕ = u32_bytes w.in-Some.next in
+      let rest : List ℕ = bytes_of_number 4 w.in-Some.next in
       let pushed : w.push_u32.new.text.items ≡ mid ++ (w.in-Some.value ∷ w.in-Some.dot ∷ rest) =
       w.in_ok-push_u32.ensures
       ∙ ap (λ (l : List ℕ). l ++ rest) (w.in_ok-push-2.ensures.items ∙ ap (λ (l : List ℕ). l ++ w.in-Some.dot ∷ []) w.in_ok-push.ensures.items

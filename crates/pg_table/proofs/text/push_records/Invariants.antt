@@ -1,6 +1,6 @@
 use Rattle.std.proofs.Common.{◌≡◌, ◌-◌, ◌++◌, take}
 use Rattle.std.specs.List.{flat_map}
-use Rattle.pg_table.specs.Texts.{record_bytes}
+use Rattle.pg_table.specs.Inside.text.Files.{record_bytes}
 use Rattle.pg_table.proofs.text.push_records.Given as goal
 
 abbrev pub invariant-loop-head : goal.invariant-loop-head

@@ -10,8 +10,7 @@ use Rattle.pg_patterns.specs.Inside.PatternMaps.{IsPatternMap}
 use Rattle.pg_outputs.specs.declared.records.Record.{Record}
 use Rattle.pg_cells.specs.Inside.linked.ValuedFamilies.{ValuedFamilies}
 use Rattle.pg_cells.specs.Inside.linked.AreValuedFamilies.{AreValuedFamilies}
-use Rattle.pg_table.specs.Texts.{head_in}
-use Rattle.pg_table.specs.Inside.text.Files.{table_families, table_records}
+use Rattle.pg_table.specs.Inside.text.Files.{table_families, table_records, head_in}
 
 -- the entries from `at` to `end` are those of the string q
 pub record IsGroup (P : Patterns) (q : List ℕ) (at end : ℕ) : Type 0 where

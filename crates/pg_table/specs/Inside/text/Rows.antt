@@ -7,7 +7,7 @@ use Rattle.pg_types.specs.Placement.{top}
 use Rattle.pg_types.specs.Inside.Placing.{cell_of}
 use Rattle.pg_cells.specs.Inside.linked.ValuedFamilies.{ValuedFamilies}
 use Rattle.pg_table.specs.declared.parts.cell.Cell.{Cell}
-use Rattle.pg_table.specs.Texts.{cell_of_table}
+use Rattle.pg_table.specs.Inside.text.Files.{cell_of_table}
 use Rattle.pg_table.specs.Inside.text.Cells.{unused_cell}
 
 -- the values are the heads of the strings

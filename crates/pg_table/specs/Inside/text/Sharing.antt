@@ -1,11 +1,12 @@
 -- How the records of outputs stand for the lists that they share.
-use Rattle.std.specs.Prelude.{◌≡◌, ℕ, ◌+◌, List, map, fold, reverse, length, slice_get, Some}
-use Rattle.pg_types.specs.Tails.{suffixes}
+use Rattle.std.specs.Prelude.{◌≡◌, ℕ, ◌+◌, if◌then◌else◌, List, [], ◌∷◌, ◌++◌, map, fold, reverse, length, slice_get, Some}
+use Rattle.std.specs.List.{list_any}
+use Rattle.std.specs.Cmp.Lexicographic.{pointwise}
+use Rattle.pg_types.specs.Tails.{suffixes, same_pair}
 use Rattle.pg_outputs.specs.declared.records.Record.{Record}
 use Rattle.pg_outputs.specs.Lists.{list_of}
 use Rattle.pg_outputs.specs.Inside.Heads.{OneHeadEach}
 use Rattle.pg_outputs.specs.Inside.Records.{AreShared}
-use Rattle.pg_table.specs.Texts.{with_list}
 
 -- lists of dots with their values
 abbrev pub Lists : Type 0
@@ -14,6 +15,10 @@ Lists = List (List (ℕ × ℕ))
 -- a dot with its value, in the other order
 abbrev pub value_and_dot : ℕ × ℕ → ℕ × ℕ
 value_and_dot x = (x.1, x.0)
+
+-- lists, with one more behind them where it is not among them
+abbrev pub with_list : Lists → List (ℕ × ℕ) → Lists
+with_list lists l = if list_any (pointwise same_pair l) lists then lists else lists ++ l ∷ []
 
 -- lists, with the ends of one more, from the shortest on
 abbrev pub with_ends : Lists → List (ℕ × ℕ) → Lists

@@ -4,10 +4,8 @@ use Rattle.std.proofs.lemmas.List.{map-append, map_more, take_all}
 use Rattle.std.proofs.lemmas.Option.{get_or_from_slice_get}
 use Rattle.std.proofs.lemmas.Result.{IfOk-from_err}
 use Rattle.pg_patterns.specs.Values.{Patterns}
-use Rattle.pg_select.specs.CountedPositions.{minima_of}
 use Rattle.pg_prune.specs.Positions.{positions_in_reach as positions_of}
-use Rattle.pg_prune.specs.Inside.positions.EntryPositions.{positions_of_entry as standing_of}
-use Rattle.pg_prune.specs.Inside.positions.EntryPositions.{positions_of_entries}
+use Rattle.pg_prune.specs.Inside.positions.EntryPositions.{positions_of_entry as standing_of, positions_of_entries}
 use Rattle.pg_prune.specs.declared.positions.trail.Start.{Start}
 use Rattle.pg_prune.specs.Inside.positions.Trails.{starts_of, trail_upto, number_at_dot}
 use Rattle.pg_prune.proofs.positions.TrailPositions.{positions_by_starts}
@@ -34,7 +32,7 @@ returns-in_err-push c = IfOk-from_err c.from_residual-in_err-push.result _ c.fro
 pub entries-preserved : goal.entries-preserved
 entries-preserved c =
     let ws = c.args.dictionary.now in
-    let m = minima_of c.args.table.now in
+    let m = c.args.table.now in
     let P = c.args.patterns.now in
     let i = c.entries.i in
     let u = c.entry-entry.result.signs.now in
@@ -60,4 +58,4 @@ entries-preserved c =
 pub returns : goal.returns
 returns c =
     let behind : length c.args.patterns.now ≤ c.entries.i = omega (arith, c.len-i-end.ensures.value) in
-    c.entries.invariant.lists ∙ ap (λ (Q : Patterns). positions_of_entries (positions_of (minima_of c.args.table.now) c.args.dictionary.now) Q) (take_all c.entries.i c.args.patterns.now behind)
+    c.entries.invariant.lists ∙ ap (λ (Q : Patterns). positions_of_entries (positions_of c.args.table.now c.args.dictionary.now) Q) (take_all c.entries.i c.args.patterns.now behind)

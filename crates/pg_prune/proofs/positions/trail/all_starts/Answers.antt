@@ -3,9 +3,7 @@ use Rattle.std.proofs.lemmas.List.Elements.{All-append, All-nil, All-same}
 use Rattle.pg_dict.specs.Inside.LentWords.{lent_word}
 use Rattle.pg_dict.specs.Inside.SoundWords.{letter_count}
 use Rattle.pg_dict.proofs.WordStore.Parts.{letters_from}
-use Rattle.pg_select.specs.CountedPositions.{minima_of}
-use Rattle.pg_prune.specs.Inside.positions.Trails.{IsStart, starts_in, starts_from, reach_count, count_between}
-use Rattle.pg_prune.specs.Inside.positions.Trails.{all_starts as all_starts_of}
+use Rattle.pg_prune.specs.Inside.positions.Trails.{IsStart, starts_in, starts_from, reach_count, count_between, all_starts as all_starts_of}
 use Rattle.pg_prune.proofs.positions.TrailStarts.{word_more, known_in}
 use Rattle.std.proofs.lemmas.List.{append-nil, drop_all}
 use Rattle.pg_dict.specs.Word.{Word}
@@ -16,7 +14,7 @@ use Rattle.pg_prune.proofs.positions.trail.all_starts.Goals.{in-Some, in_default
 pub words-preserved : goal.words-preserved
 words-preserved c =
     let ws = c.args.dictionary.now in
-    let m = minima_of c.args.table.now in
+    let m = c.args.table.now in
     let w = lent_word c.word-w.result in
     let added : c.push_starts.new.starts.items ≡ c.words.starts.items ++ starts_in c.words.word c.words.before (length w.signs) = c.in_ok-push_starts.ensures in
     let size : (c.match-reach.before ≡ c.words.before + reach_count m (length w.signs)) × (reach_count m (length w.signs) ≤ letter_count w) =
@@ -46,7 +44,7 @@ pub words-init : goal.words-init
 words-init c =
     let ws = c.args.dictionary.now in
     record {
-      whole = ap (λ (xs : List Start). xs ++ all_starts_of (minima_of c.args.table.now) ws) c.new-starts.ensures.items;
+      whole = ap (λ (xs : List Start). xs ++ all_starts_of c.args.table.now ws) c.new-starts.ensures.items;
       few = omega (arith, c.len-word-end.ensures.letters);
       known = All-same (IsStart ws) _ _ c.new-starts.ensures.items (All-nil (IsStart ws));
     }
@@ -56,7 +54,7 @@ returns-clause-starts c =
     let ws = c.args.dictionary.now in
     let none : drop c.words.word ws ≡ [] = drop_all c.words.word ws (omega (arith, c.words-test.false, c.len-word-end.ensures.len)) in
     sym (append-nil c.words.starts.items)
-    ∙ ap (λ (us : List Word). c.words.starts.items ++ starts_from (minima_of c.args.table.now) c.words.word c.words.before us) (sym none)
+    ∙ ap (λ (us : List Word). c.words.starts.items ++ starts_from c.args.table.now c.words.word c.words.before us) (sym none)
     ∙ c.words.invariant.whole
 
 pub returns-clause-known : goal.returns-clause-known

@@ -1,5 +1,4 @@
 use Rattle.std.proofs.Common.{◌++◌, ◌∷◌, [], List, Vec, Global, ℕ, ap, ◌∙◌}
-use Rattle.pg_select.specs.CountedPositions.{minima_of}
 use Rattle.pg_prune.specs.Inside.positions.Trails.{number_at_dot}
 use Rattle.pg_prune.proofs.positions.TrailLists.{given_more, given_none}
 use Rattle.std.specs.List.{filter_map}
@@ -10,7 +9,7 @@ use Rattle.pg_prune.proofs.positions.trail.standing.Goals.{in-Some+in_ok-push, i
 
 pub starts-preserved : goal.starts-preserved
 starts-preserved c =
-    let f = number_at_dot (minima_of c.args.table.now) c.args.dictionary.now c.args.dot in
+    let f = number_at_dot c.args.table.now c.args.dictionary.now c.args.dot in
     elim c.match-number_at_dot.branch [
       | in-Some+in_ok-push w ↦
           ap (λ (v : Vec ℕ Global). v.items) w.numbers-is
@@ -32,4 +31,4 @@ number_at_dot-requires c = c.requires c.starts.start-index _ c.starts-test.true
 pub returns : goal.returns
 returns c =
     c.starts.invariant
-    ∙ ap (λ (ss : List Start). filter_map (number_at_dot (minima_of c.args.table.now) c.args.dictionary.now c.args.dot) ss) (take_all c.starts.start-index c.args.starts.now c.starts-test.false)
+    ∙ ap (λ (ss : List Start). filter_map (number_at_dot c.args.table.now c.args.dictionary.now c.args.dot) ss) (take_all c.starts.start-index c.args.starts.now c.starts-test.false)

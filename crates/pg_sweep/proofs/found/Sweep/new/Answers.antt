@@ -1,9 +1,8 @@
 use Rattle.std.proofs.Common.{◌≡◌, sym, ◌∙◌, ap, subst, arith}
 use Rattle.std.proofs.lemmas.List.{length-map}
 use Rattle.pg_sweep.specs.declared.rows.SweepRow.{SweepRow}
-use Rattle.pg_sweep.specs.Sweeps.{costs_of}
 use Rattle.pg_sweep.specs.Winners.{winner_of}
-use Rattle.pg_sweep.specs.Promises.{IsWinner}
+use Rattle.pg_sweep.specs.Promises.{costs_of, IsWinner}
 use Rattle.pg_sweep.proofs.Winners.{winner_wins}
 use Rattle.pg_sweep.proofs.found.Sweep.new.Goals as goal
 

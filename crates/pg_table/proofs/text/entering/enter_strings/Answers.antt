@@ -36,7 +36,7 @@ enter-requires c =
     subst (λ n. All (λ s. (1 ≤ s) × (s ≤ n)) c.entry.result.signs.now) (sym c.strings.invariant.signs)
     (signs_within c.args.cells.now.signs c.args.patterns.now c.strings.at
     ((c.entry.result.signs.now, c.entry.result.dot), c.entry.result.value) c.requires.known c.entry.ensures.value c.entry.ensures.signs) in
-    (omega arith, (c.entry.ensures.some, known))
+    record { some = c.entry.ensures.some; signs = known }
 
 pub strings-smaller : goal.strings-smaller
 strings-smaller c =

@@ -1,9 +1,8 @@
 use Rattle.std.proofs.Common.{◌∙◌, ap, sym, subst}
 use Rattle.pg_patterns.specs.Inside.PatternMaps.{SignsUpTo}
-use Rattle.pg_table.specs.Inside.text.Files.{table_cells}
+use Rattle.pg_table.specs.Inside.text.Files.{table_cells, head_in}
 use Rattle.pg_table.specs.Inside.text.PackedTrie.{IsEntered}
 use Rattle.pg_table.specs.Inside.text.Rows.{HasHeads, FillsSigns}
-use Rattle.pg_table.specs.Texts.{head_in}
 use Rattle.pg_table.proofs.text.row.fill.Goals as goal
 
 pub fill_patterns-requires-clause-known : goal.fill_patterns-requires-clause-known

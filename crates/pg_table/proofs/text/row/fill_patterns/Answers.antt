@@ -1,8 +1,8 @@
-use Rattle.std.proofs.Common.{◌≡◌, ◌≤◌, ℕ, List, [], ◌∷◌, inl, inr, length, take, slice_get, Some, All, sym, ap, subst, ◌∙◌, arith}
+use Rattle.std.proofs.Common.{◌≡◌, ℕ, List, [], ◌∷◌, inl, inr, length, take, slice_get, Some, sym, ap, subst, ◌∙◌, arith}
 use Rattle.std.proofs.lemmas.Bool.{cases_lt}
 use Rattle.std.proofs.lemmas.List.{take_all}
 use Rattle.pg_table.specs.Inside.text.Rows.{HasHeads, HasCell}
-use Rattle.pg_table.specs.Texts.{head_in}
+use Rattle.pg_table.specs.Inside.text.Files.{head_in}
 use Rattle.pg_table.proofs.text.EnteredStrings.{signs_within}
 use Rattle.pg_table.proofs.text.Filling.{row_last}
 use Rattle.pg_table.proofs.text.Groups.{Entry}

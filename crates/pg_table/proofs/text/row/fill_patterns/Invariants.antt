@@ -1,6 +1,6 @@
 use Rattle.std.proofs.Common.{◌≡◌, ℕ, ◌<◌, ◌≤◌, List, [], ◌∷◌, slice_get, Some, take}
 use Rattle.pg_table.specs.Inside.text.Rows.{IsPartRow, HasCell}
-use Rattle.pg_table.specs.Texts.{head_in}
+use Rattle.pg_table.specs.Inside.text.Files.{head_in}
 use Rattle.pg_table.proofs.text.row.fill_patterns.Given as goal
 
 abbrev pub invariant-patterns : goal.invariant-patterns

@@ -1,6 +1,6 @@
-use Rattle.std.proofs.Common.{◌≡◌, [], ◌∷◌, inl, inr, ◌≤◌, ◌-◌, sym, subst, arith}
+use Rattle.std.proofs.Common.{◌≡◌, [], ◌∷◌, inl, inr, sym, subst, arith}
 use Rattle.std.proofs.lemmas.Bool.{cases_lt}
-use Rattle.pg_table.specs.Inside.text.Rows.{HasCell, FillsSigns}
+use Rattle.pg_table.specs.Inside.text.Rows.{HasCell}
 use Rattle.pg_table.proofs.text.row.fill_signs.Goals as goal
 
 pub signs-preserved : goal.signs-preserved

@@ -1,4 +1,4 @@
-use Rattle.std.proofs.Common.{ℕ, ◌<◌, ◌≤◌, ◌-◌, List}
+use Rattle.std.proofs.Common.{ℕ, ◌-◌, List}
 use Rattle.pg_table.specs.Inside.text.Rows.{HasHeads, IsPartRow, FillsSigns}
 use Rattle.pg_table.proofs.text.row.fill_signs.Given as goal
 

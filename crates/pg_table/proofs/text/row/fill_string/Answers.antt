@@ -14,7 +14,7 @@ loop-s-init c = record { at = refl; fills = λ heads has row. fills_none c.args.
 
 pub step-requires : goal.step-requires
 step-requires c =
-    (omega arith, ((take c.loop-s.s-index c.args.signs.now, c.loop-s.invariant.at), c.requires.signs c.loop-s.s-index 0 c.loop-s-test.true))
+    record { at = (take c.loop-s.s-index c.args.signs.now, c.loop-s.invariant.at); sign = c.requires.signs c.loop-s.s-index 0 c.loop-s-test.true }
 
 pub returns : goal.returns
 returns c heads has row =

@@ -5,7 +5,7 @@ use Rattle.pg_cells.specs.Inside.linked.ValuedFamilies.{ValuedFamilies}
 use Rattle.pg_table.specs.declared.parts.cell.Cell.{Cell}
 use Rattle.pg_table.specs.Inside.text.Cells.{unused_cell}
 use Rattle.pg_table.specs.Inside.text.Rows.{IsPartRow}
-use Rattle.pg_table.specs.Texts.{head_in}
+use Rattle.pg_table.specs.Inside.text.Files.{head_in}
 use Rattle.pg_table.proofs.text.row.table_cells.Goals as goal
 
 -- a row of unused cells

@@ -4,7 +4,6 @@ use Rattle.pg_dict.specs.Inside.LentWords.{lent_word}
 use Rattle.pg_dict.specs.Word.{Word}
 use Rattle.pg_table.specs.Lookups.{table_value}
 use Rattle.pg_table.specs.Inside.view.Marks.{table_marks}
-use Rattle.pg_select.specs.CountedPositions.{minima_of}
 use Rattle.pg_select.specs.Inside.SumSteps.{with_marks}
 use Rattle.pg_table.proofs.view.MarkSteps.{marks_word}
 use Rattle.pg_table.proofs.view.WordSteps.{drop_place, letters_left, signs_within}
@@ -25,7 +24,7 @@ add_marks-sums-requires-clause-room c = omega (arith, letters_left c.args.dictio
 pub words-preserved : goal.words-preserved
 words-preserved c =
     let b = c.args.view.now in
-    let minima = minima_of c.args.table.now in
+    let minima = c.args.table.now in
     let w = lent_word c.word-w.result in
     let place = drop_place c.args.dictionary.now c.words.i w c.word-w.ensures.lent in
     record {

@@ -3,8 +3,7 @@ use Rattle.std.specs.List.{filter}
 use Rattle.std.proofs.lemmas.List.{take-map, map-append, take_all, take_more}
 use Rattle.std.proofs.lemmas.List.Elements.{All-filter, All-same}
 use Rattle.pg_prune.specs.declared.positions.trail.Start.{Start}
-use Rattle.pg_prune.specs.Inside.positions.Trails.{IsStart, begins_at, starts_of, trail_upto, last_list}
-use Rattle.pg_prune.specs.Inside.positions.Trails.{continues_with as continues_with_by}
+use Rattle.pg_prune.specs.Inside.positions.Trails.{IsStart, begins_at, starts_of, trail_upto, last_list, continues_with as continues_with_by}
 use Rattle.pg_prune.proofs.positions.TrailSteps.{longer_starts, last_trail, trail_more, trail_cut}
 use Rattle.pg_prune.proofs.positions.trail.Trail.go_to.Goals as goal
 

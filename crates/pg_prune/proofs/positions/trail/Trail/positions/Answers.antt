@@ -2,7 +2,6 @@ use Rattle.std.proofs.Common.{◌≡◌, map, ap, ◌∙◌, List}
 use Rattle.std.specs.List.{filter_map}
 use Rattle.std.proofs.lemmas.List.Elements.{All-filter, All-same}
 use Rattle.std.proofs.lemmas.Result.{IfOk-weaker}
-use Rattle.pg_select.specs.CountedPositions.{minima_of}
 use Rattle.pg_prune.specs.declared.positions.trail.Start.{Start}
 use Rattle.pg_prune.specs.Inside.positions.Trails.{IsStart, begins_at, starts_of, number_at_dot}
 use Rattle.pg_prune.proofs.positions.TrailSteps.{whole_trail}
@@ -24,4 +23,4 @@ returns-clause-positions c =
     let u = c.args.signs.now in
     let lists : List (List Start) = map (λ t. t.items) c.go_to.new.self.starts.items in
     let now : c.starts_of.result.now ≡ starts_of ws all u = c.starts_of.ensures ∙ whole_trail ws all u lists c.requires.known c.in_ok-go_to.ensures.trail in
-    IfOk-weaker c.standing.result _ _ (λ positions is. is ∙ ap (λ (xs : List Start). filter_map (number_at_dot (minima_of c.args.table.now) ws c.args.dot) xs) now) c.standing.ensures
+    IfOk-weaker c.standing.result _ _ (λ positions is. is ∙ ap (λ (xs : List Start). filter_map (number_at_dot c.args.table.now ws c.args.dot) xs) now) c.standing.ensures
