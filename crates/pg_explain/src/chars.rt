@@ -7,11 +7,6 @@ pub(crate) fn up_to(bytes: &[u8], end: usize) -> &[u8] {
     bytes.get(..end).unwrap_or(bytes)
 }
 
-/// The bytes behind the first `start`; none where there are fewer.
-pub(crate) fn behind(bytes: &[u8], start: usize) -> &[u8] {
-    bytes.get(start..).unwrap_or(&[])
-}
-
 /// The character that these bytes begin with, if they begin with one.
 pub(crate) fn first_char(bytes: &[u8]) -> Option<char> {
     for size in 1..5 {

@@ -10,11 +10,11 @@ mod parameters;
 mod word_lines;
 
 use crate::refused::causes::push_cause;
-use crate::refused::heads::{push_mark, push_minimum};
+use crate::refused::heads::push_head;
 use crate::refused::letter_lines::{push_clash, push_delimiter, push_spelling};
 use crate::refused::more::push_more;
 use crate::refused::packed_tables::{push_bad_table, push_long_table, push_other_table};
-use crate::refused::parameters::{item_spot, push_item};
+use crate::refused::parameters::RefusedItem;
 use crate::refused::word_lines::{push_character, push_long, push_weight};
 use crate::wrong::RefusalCase;
 use pg_types::Kind;
@@ -28,21 +28,6 @@ const LONG_FILE: &str = "$0 has more than 67,108,864 bytes (2^26), the most that
 /// What is said of the first letter that is one too many.
 const MANY_LETTERS: &str = "2,000 letters stand above this line, the most that a table has";
 
-/// The place of a refusal.
-fn spot_of<'a>(refused: &RefusalCase<'a>) -> Spot<'a> {
-    let refusal = &refused.refusal;
-    match refusal.kind {
-        Kind::BadNumber | Kind::OutOfRange | Kind::Missing | Kind::Extra => {
-            item_spot(refused.bytes, refusal.line as usize)
-        }
-        _ => Spot::new(
-            refused.bytes,
-            refusal.line as usize,
-            refusal.column as usize,
-        ),
-    }
-}
-
 /// Appends where and why a file is refused.
 fn push_reason<'a>(
     text: &mut Text,
@@ -54,14 +39,11 @@ fn push_reason<'a>(
         | Kind::ParametersTooLong
         | Kind::PatternsTooLong
         | Kind::DictionaryTooLong => text.line(LONG_FILE, &[Name(refused.name)]),
-        Kind::BadMinima => push_minimum(text, refused.name, spot),
-        Kind::BadMark => push_mark(text, refused.name, spot),
-        Kind::BadSpelling => push_spelling(text, refused.name, spot),
+        Kind::BadMinima | Kind::BadMark => push_head(text, refused.name, spot),
+        Kind::BadSpelling => push_spelling(text, refused, spot),
         Kind::SpellingClash => push_clash(text, refused, spot),
         Kind::TooManyLetters => text.place(refused.name, spot, MANY_LETTERS, &[]),
-        Kind::BadNumber | Kind::OutOfRange | Kind::Missing | Kind::Extra => {
-            push_item(text, refused, spot)
-        }
+        Kind::BadNumber | Kind::OutOfRange | Kind::Missing | Kind::Extra => Ok(()),
         Kind::PatternCharacter | Kind::DictionaryCharacter => push_character(text, refused, spot),
         Kind::PatternTooLong | Kind::WordTooLong => push_long(text, refused, spot),
         Kind::BadWeight => push_weight(text, refused.name, spot),
@@ -89,9 +71,17 @@ fn push_place(
 /// Appends where and why a file is refused, and what is due there. A refusal that has a place also
 /// gets its line with a caret, its cause, and how many more lines would be refused.
 pub(crate) fn push_refused(text: &mut Text, refused: &RefusalCase<'_>) -> Result<(), AllocError> {
-    let spot = spot_of(refused);
+    if let Some(item) = RefusedItem::of(refused) {
+        item.push_reason(text)?;
+        text.excerpt(&item.spot)?;
+        push_cause(text, refused, &item.spot)?;
+        return item.push_more(text);
+    }
+    let refusal = &refused.refusal;
+    let (line, column) = (refusal.line as usize, refusal.column as usize);
+    let spot = Spot::new(refused.bytes, line, column);
     push_reason(text, refused, &spot)?;
-    if refused.refusal.line == 0 {
+    if line == 0 {
         return Ok(());
     }
     push_place(text, refused, &spot)

@@ -4,7 +4,7 @@ use Rattle.std.specs.Char.{is_ascii_digit}
 use Rattle.std.specs.List.{list_all}
 use Rattle.std.specs.Prelude.{if◌then◌else◌}
 use Rattle.std.proofs.lemmas.Bool.Decides.{nat_tests}
-use Rattle.pg_types.specs.Parameters.{with_digit}
+use Rattle.pg_types.specs.Numbers.{with_digit}
 use Rattle.pg_types.specs.Inside.reading.Parts.{number_from}
 use Rattle.pg_words.specs.Inside.Numbers.{at_most}
 

@@ -3,3 +3,5 @@ pub mod OtherArguments
 pub mod SweepParts
 pub mod AcceptedRequests
 pub mod ArgumentsAt
+pub mod FileOrder
+pub mod Unbroken

@@ -1,9 +1,8 @@
 -- What the arguments behind `sweep` ask for, one by one.
-use Rattle.std.proofs.Common.{◌≡◌, ℕ, ◌<◌, ◌≤◌, nat_lt, nat_le, true, ◌&&◌, List, [], ◌∷◌, length, None, Some, refl, sym, arith}
+use Rattle.std.proofs.Common.{◌≡◌, ℕ, ◌<◌, ◌≤◌, nat_lt, nat_le, true, ◌&&◌, List, [], ◌∷◌, length, None, Some, refl, arith}
 use Rattle.std.proofs.lemmas.Bool.Decides.{nat_tests}
 use Rattle.std.specs.Option.{option_map}
 use Rattle.pg_words.specs.Inside.Requests.{ToSweep}
-use Rattle.pg_words.proofs.AcceptedRequests.{accepted_as}
 use Rattle.pg_words.specs.NumbersWithin.{number_within}
 use Rattle.pg_words.specs.AcceptedNames.{where_accepted}
 use Rattle.pg_words.specs.Inside.forms.Sweep.{sweep_in}
@@ -47,7 +46,7 @@ pub all_within : (dict patterns output translate k bad_argument missed_argument 
     ≡ Some folds → number_within PRICE_DIGITS 1 PRICE_MAX bad_argument ≡ Some bad → number_within PRICE_DIGITS 1 PRICE_MAX missed_argument ≡ Some missed
     → (nat_lt 0 (length params) && nat_le (length params) SETS_MAX) ≡ true
     → option_map ToSweep (sweep_in (dict ∷ patterns ∷ output ∷ translate ∷ k ∷ bad_argument ∷ missed_argument ∷ params))
-    ≡ where_accepted (dict ∷ patterns ∷ translate ∷ params) (output ∷ []) (ToSweep (record {
+    ≡ option_map ToSweep (where_accepted (dict ∷ patterns ∷ translate ∷ params) (output ∷ []) (record {
       dict = dict;
       patterns = patterns;
       output = output;
@@ -58,13 +57,4 @@ pub all_within : (dict patterns output translate k bad_argument missed_argument 
       params = params;
     }))
 all_within dict patterns output translate k bad_argument missed_argument params folds bad missed one two three count =
-    rw (one, two, three, count) (sym (accepted_as ToSweep (dict ∷ patterns ∷ translate ∷ params) (output ∷ []) (record {
-      dict = dict;
-      patterns = patterns;
-      output = output;
-      translate = translate;
-      folds = folds;
-      bad = bad;
-      missed = missed;
-      params = params;
-    })))
+    rw (one, two, three, count) refl

@@ -4,4 +4,5 @@ pub mod Numbers
 pub mod CommandRequests
 pub mod forms
 pub mod Requests
+pub mod Slips
 pub mod Commands

@@ -1,7 +1,7 @@
 -- The number that an argument of a call is.
 use Rattle.std.specs.Prelude.{ℕ, nat_lt, nat_le, ◌&&◌, if◌then◌else◌, List, length, Option, None, Some}
 use Rattle.std.specs.Option.{option_and_then}
-use Rattle.pg_types.specs.Parameters.{number}
+use Rattle.pg_types.specs.Numbers.{number}
 
 -- the number that an argument of at most so many decimal digits is, where it is within these bounds
 abbrev pub number_within : ℕ → ℕ → ℕ → List ℕ → Option ℕ

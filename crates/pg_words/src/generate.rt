@@ -1,20 +1,12 @@
 //! The arguments of `generate` and `audit`.
-ghost use Rattle.std.specs.Prelude.{◌≡◌, ◌≤◌, ◌<◌, ◌+◌, ◌&&◌, ◌++◌, length, drop, IfSome};
-ghost use Rattle.std.specs.List.{list_all};
-ghost use Rattle.std.specs.Option.{option_map, is_none};
-ghost use Rattle.arrayvec.specs.ArrayVec.{array_vec_len};
+ghost use Rattle.std.specs.Prelude.{◌≡◌, ◌≤◌, true, length, drop, IfSome};
+ghost use Rattle.std.specs.Option.{option_map, is_some};
 ghost use Rattle.pg_words.specs.Inside.Requests.{ToGenerate, ToAudit};
-ghost use Rattle.pg_words.specs.AcceptedNames.{is_name};
-ghost use Rattle.pg_words.specs.Inside.forms.Generate.{if_asked, input_names, output_names, with_option as with_option_of, with_options as with_options_of, files_in, generate_in, audit_in};
-ghost use Rattle.pg_words.specs.Inside.Names.{texts, arguments_of};
-ghost use Rattle.pg_words.specs.Inside.CommandRequests.{name_now, texts_of, asked_by, KeepsLimits};
+ghost use Rattle.pg_words.specs.Inside.forms.Generate.{with_option as with_option_of, with_options as with_options_of, files_in, generate_in, audit_in};
+ghost use Rattle.pg_words.specs.Inside.Names.{arguments_of};
+ghost use Rattle.pg_words.specs.Inside.CommandRequests.{texts_of, asked_by, KeepsLimits};
 
 use crate::commands::{Command, Names};
-use crate::names::{are_all_names, where_accepted};
-use arrayvec::ArrayVec;
-
-/// How many outputs `generate` has at most.
-const OUTPUTS_MAX: usize = 4;
 
 /// The names with that of an option.
 fn with_option<'a>(names: Names<'a>, option: &str, name: &'a str) -> Option<Names<'a>>
@@ -93,72 +85,25 @@ fn names(words: &[String]) -> Option<Names<'_>>
     with_options(first_names(words), &words[6..])
 }
 
-/// The names of the inputs.
-fn inputs_of<'a>(names: &Names<'a>) -> [&'a str; 4]
-    ensures { texts result ≡ input_names (texts_of names.now) }
-{
-    [names.dict, names.patterns, names.translate, names.params]
-}
-
-/// Adds the name of an output, where it is asked for.
-fn push_if_asked<'a>(outputs: &mut ArrayVec<&'a str, OUTPUTS_MAX>, name: Option<&'a str>)
-    requires { array_vec_len outputs.old < OUTPUTS_MAX }
-    ensures names { texts outputs.new.items
-        ≡ texts outputs.old.items ++ if_asked (name_now name.entry) (λ text. text) }
-    ensures room { array_vec_len outputs.new ≤ array_vec_len outputs.old + 1 }
-{
-    if let Some(name) = name {
-        outputs.push(name);
-    }
-}
-
-/// The names of the outputs, in the order in which they are written.
-fn outputs_of<'a>(names: &Names<'a>) -> ArrayVec<&'a str, OUTPUTS_MAX>
-    ensures { texts result.items ≡ output_names (texts_of names.now) }
-{
-    let mut outputs = ArrayVec::new();
-    outputs.push(names.output);
-    push_if_asked(&mut outputs, names.pattmp);
-    push_if_asked(&mut outputs, names.cells);
-    outputs.push(names.report);
-    outputs
-}
-
-/// Whether `audit` takes these names.
-fn are_audited(names: &Names<'_>) -> bool
-    ensures { result ≡ list_all is_name
-        (input_names (texts_of names.now) ++ output_names (texts_of names.now))
-        && is_none (texts_of names.now).cells }
-{
-    let outputs = outputs_of(names);
-    are_all_names(&inputs_of(names), outputs.as_slice()) && names.cells.is_none()
-}
-
-/// What the arguments behind `generate` ask for.
+/// What the arguments behind `generate` ask for, where they are that command.
 pub fn generate(words: &[String]) -> Option<Command<'_>>
     ensures within { IfSome result KeepsLimits }
-    ensures value { option_map asked_by result
-        ≡ option_map ToGenerate (generate_in (arguments_of words.now)) }
+    ensures value { let asked = option_map ToGenerate (generate_in (arguments_of words.now)) in
+        is_some asked ≡ true → option_map asked_by result ≡ asked }
 {
     let names = names(words)?;
-    let outputs = outputs_of(&names);
-    where_accepted(
-        &inputs_of(&names),
-        outputs.as_slice(),
-        Command::Generate(names),
-    )
+    Some(Command::Generate(names))
 }
 
-/// What the arguments behind `audit` ask for.
+/// What the arguments behind `audit` ask for, where they are that command.
 pub fn audit(words: &[String]) -> Option<Command<'_>>
     ensures within { IfSome result KeepsLimits }
-    ensures value { option_map asked_by result
-        ≡ option_map ToAudit (audit_in (arguments_of words.now)) }
+    ensures value { is_some (option_map ToAudit (audit_in (arguments_of words.now))) ≡ true
+        → option_map asked_by result ≡ option_map ToAudit (audit_in (arguments_of words.now)) }
 {
     let names = names(words)?;
-    if are_audited(&names) {
-        Some(Command::Audit(names))
-    } else {
-        None
+    match names.cells {
+        None => Some(Command::Audit(names)),
+        Some(_) => None,
     }
 }

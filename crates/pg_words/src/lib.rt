@@ -3,6 +3,7 @@
 
 pub mod arguments;
 pub mod commands;
+pub mod forms;
 mod generate;
 pub mod limits;
 mod names;
@@ -10,8 +11,11 @@ mod numbers;
 mod pack;
 mod prune;
 mod sample;
+pub mod slips;
 mod sweep;
 mod totals;
 
 pub use arguments::command;
 pub use commands::{Command, Names, PackNames, PruneNames, SweepWords, TotalsNames};
+pub use forms::{FORMS, Form, Kind, Label, Slot};
+pub use slips::{Slip, first_slip};

@@ -3,7 +3,7 @@
 
 use crate::chars::{first_bytes, first_char, is_letter, is_letter_char, small_of};
 use crate::wrong::{Letters, RefusalCase};
-use pg_translate::{Item, Place};
+use pg_translate::{Item, Place, mark_column};
 use pg_types::{Kind, Mark};
 use pg_visible::Part::{Byte, Char, Count, Hex, Name, Show};
 use pg_visible::{Spot, Text};
@@ -58,11 +58,11 @@ const MARK: &str = "$0 is a mark of dictionaries; patterns have digits";
 
 /// It is a mark of dictionaries, in a pattern with digits.
 const MARK_LETTER: &str =
-    "$0 is a mark of dictionaries; to make it a letter, the translate file needs another mark in column $7 of its first line, and a line \" $0\"";
+    "$0 is a mark of dictionaries; a letter needs a line \" $0\", and column $7 of the head another mark";
 
 /// It is `=`, in a dictionary.
 const EQUALS: &str =
-    "if $0 is the hyphen of $3, write it into column 6 of the first line of the translate file";
+    "if $0 is the hyphen of $3, write it into column $7 of the first line of the translate file";
 
 /// It is a dot in the middle, in a dictionary.
 const DOT: &str = "if $0 is the hyphen of $3, write $5 in its place, since a mark is one byte";
@@ -181,12 +181,10 @@ fn item_cause(letters: &Letters<'_>, kind: Kind, spot: &Spot<'_>) -> Option<Caus
 }
 
 /// The column of the mark that these bytes begin with, in the head of a translate file.
-fn mark_column(letters: &Letters<'_>, rest: &[u8]) -> usize {
+fn column_of(letters: &Letters<'_>, rest: &[u8]) -> usize {
     match letters.table.item(Place::Dictionary, rest) {
-        Item::Mark(Mark::Error, _) => 5,
-        Item::Mark(Mark::Found, _) => 7,
-        Item::Mark(Mark::DontCare, _) => 8,
-        _ => 6,
+        Item::Mark(mark, _) => mark_column(mark),
+        _ => mark_column(Mark::Missed),
     }
 }
 
@@ -202,7 +200,7 @@ pub(crate) fn push_letter_cause<'a>(
     };
     let bytes = first_bytes(spot.rest());
     let latin1 = char::from(*bytes.first().unwrap_or(&b'?'));
-    let column = mark_column(letters, spot.rest());
+    let column = column_of(letters, spot.rest());
     let hyphen = letters.table.mark_byte(Mark::Missed);
     text.line(
         cause.sentence,

@@ -1,7 +1,6 @@
 //! How many more lines of a refused file would be refused.
 
 use crate::chars::{has_minima, up_to};
-use crate::refused::parameters::push_more_items;
 use crate::wrong::RefusalCase;
 use pg_dict::Dictionary;
 use pg_patterns::PatternSet;
@@ -158,7 +157,7 @@ fn push_more_words(
     }
 }
 
-/// Appends how many more lines of a file would be refused.
+/// Appends how many more lines of a file with lines would be refused.
 pub(crate) fn push_more(text: &mut Text, refused: &RefusalCase<'_>) -> Result<(), AllocError> {
     match refused.refusal.kind {
         Kind::PatternCharacter | Kind::PatternTooLong => push_more_words(text, refused, true),
@@ -170,9 +169,6 @@ pub(crate) fn push_more(text: &mut Text, refused: &RefusalCase<'_>) -> Result<()
         | Kind::BadSpelling
         | Kind::SpellingClash
         | Kind::TooManyLetters => push_more_letters(text, refused),
-        Kind::BadNumber | Kind::OutOfRange | Kind::Missing | Kind::Extra => {
-            push_more_items(text, refused)
-        }
         _ => Ok(()),
     }
 }

@@ -42,6 +42,17 @@ pub(crate) fn push_character<'a>(
     text.place(refused.name, spot, sentence, &parts)
 }
 
+/// What stands behind a number in English to say which one of a row is meant.
+fn ordinal_end(number: usize) -> &'static str {
+    match (number % 100, number % 10) {
+        (11..=13, _) => "th",
+        (_, 1) => "st",
+        (_, 2) => "nd",
+        (_, 3) => "rd",
+        _ => "th",
+    }
+}
+
 /// Appends that a pattern or a word is too long.
 pub(crate) fn push_long(
     text: &mut Text,
@@ -49,19 +60,20 @@ pub(crate) fn push_long(
     spot: &Spot<'_>,
 ) -> Result<(), AllocError> {
     let (most, sentence) = if refused.refusal.kind == Kind::WordTooLong {
-        let sentence = "the $0st letter of the line begins here, and a word has at most $1";
+        let sentence = "the $0$2 letter of the line begins here, and a word has at most $1";
         (WORD_LETTERS_MAX, sentence)
     } else {
         let sentence =
-            "the $0rd letter or dot of the line begins here, and a pattern has at most $1";
+            "the $0$2 letter or dot of the line begins here, and a pattern has at most $1";
         (PATTERN_SIGNS_MAX, sentence)
     };
-    text.place(
-        refused.name,
-        spot,
-        sentence,
-        &[Count(most + 1), Count(most)],
-    )
+    let first_behind = most + 1;
+    let parts = [
+        Count(first_behind),
+        Count(most),
+        Say(ordinal_end(first_behind)),
+    ];
+    text.place(refused.name, spot, sentence, &parts)
 }
 
 /// How many bytes the weight has that these bytes begin with; 1 where it does not end.

@@ -1,5 +1,5 @@
 -- What a command asks for, and the limits of its numbers.
-use Rattle.std.specs.Prelude.{◌≡◌, ℕ, ◌≤◌, List, ◌∷◌, length, Option, None}
+use Rattle.std.specs.Prelude.{◌≡◌, ℕ, ◌≤◌, List, length, Option, None}
 use Rattle.std.specs.Option.{option_map}
 use denote.Ref.{Bor}
 use Rattle.pg_words.specs.Inside.forms.Generate.{FileNames}
@@ -48,10 +48,6 @@ sweep_of w = record {
   missed = w.missed;
   params = arguments_of w.params.now;
 }
-
--- the names of the inputs of `sweep`
-abbrev pub sweep_inputs : SweepRequest → List (List ℕ)
-sweep_inputs s = s.dict ∷ s.patterns ∷ s.translate ∷ s.params
 
 -- the names of `pack` as their bytes
 abbrev pub pack_of : PackNames → PackRequest

@@ -3,15 +3,10 @@ use Rattle.std.specs.Prelude.{ℕ, Bool, not, List, map, String, string_bytes}
 use Rattle.std.specs.List.{list_all}
 use Rattle.std.specs.Str.{bytes_eq}
 use Rattle.std.specs.declared.alloc.Global.{Global}
-use denote.Ref.{Bor}
 
 -- arguments as their bytes
 abbrev pub arguments_of : List (String Global) → List (List ℕ)
 arguments_of words = map string_bytes words
-
--- names as their bytes
-abbrev pub texts : List (Bor (List ℕ)) → List (List ℕ)
-texts names = map (λ name. name.now) names
 
 -- a name differs from all others
 abbrev pub differs_from : List ℕ → List (List ℕ) → Bool

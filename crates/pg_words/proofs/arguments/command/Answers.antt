@@ -1,16 +1,16 @@
-use Rattle.std.proofs.Common.{◌-◌, ◌∙◌, length, length-drop, take, drop, sym, ap, arith}
-use Rattle.std.proofs.lemmas.List.{take_all}
-use Rattle.pg_words.specs.Inside.Requests.{request_of}
-use Rattle.pg_words.proofs.ArgumentsAt.{one_argument}
+use Rattle.std.proofs.Common.{◌≡◌, false, Option, None, Some, refl, sym}
+use Rattle.std.specs.Option.{is_some}
+use Rattle.pg_words.specs.Inside.Names.{arguments_of}
+use Rattle.pg_words.specs.Inside.Requests.{Request, request_of}
 use Rattle.pg_words.proofs.arguments.command.Goals as goal
 
-pub returns-in-len1-up : goal.returns-in-len1-up
-returns-in-len1-up c =
-    let words = c.args.words.now in
-    let behind = take (length words - 1) (drop 1 words) in
-    let parts = one_argument words c.as_str.result.now behind c.in-len1-up.len_at_least (c.name-item.result, c.name-item.is, c.as_str.ensures.value)
-    (take_all _ _ (omega (arith, length-drop 1 words))) in
-    record {
-      value = c.command_of.ensures.value ∙ ap request_of (sym parts);
-      within = c.command_of.ensures.within;
-    }
+-- nothing is asked for
+none_asked : (request : Option Request) → false ≡ is_some request → None ≡ request
+none_asked None is = refl
+none_asked (Some request) is = cc
+
+pub returns-in-Some : goal.returns-in-Some
+returns-in-Some c = record { value = none_asked (request_of (arguments_of c.args.words.now)) c.in-Some.ensures.none; within = tt }
+
+pub returns-in-None : goal.returns-in-None
+returns-in-None c = record { value = c.made.ensures.value (sym c.in-None.ensures.none); within = c.made.ensures.within }

@@ -15,7 +15,7 @@ returns-then-eq-2 c = record {
 
 pub returns-then-eq-3 : goal.returns-then-eq-3
 returns-then-eq-3 c = record {
-  value = rw (sym c.if-eq.ensures, sym c.if-eq-2.ensures, sym c.if-eq-3.ensures) c.sample.ensures.value;
+  value = rw (sym c.if-eq.ensures, sym c.if-eq-2.ensures, sym c.if-eq-3.ensures) (λ taken. c.sample.ensures.value);
   within = c.sample.ensures.within;
 }
 
@@ -45,6 +45,6 @@ returns-then-eq-7 c = record {
 
 pub returns-else-eq-7 : goal.returns-else-eq-7
 returns-else-eq-7 c = record {
-  value = rw (sym c.if-eq.ensures, sym c.if-eq-2.ensures, sym c.if-eq-3.ensures, sym c.if-eq-4.ensures, sym c.if-eq-5.ensures, sym c.if-eq-6.ensures, sym c.if-eq-7.ensures) refl;
+  value = rw (sym c.if-eq.ensures, sym c.if-eq-2.ensures, sym c.if-eq-3.ensures, sym c.if-eq-4.ensures, sym c.if-eq-5.ensures, sym c.if-eq-6.ensures, sym c.if-eq-7.ensures) (λ none. refl);
   within = tt;
 }

@@ -2,7 +2,7 @@ use Rattle.std.proofs.Common.{◌≡◌, ℕ, ◌+◌, ◌<◌, ◌∙◌, true,
 use Rattle.std.specs.Char.{is_ascii_digit}
 use Rattle.std.proofs.lemmas.Grind.{common_steps}
 use Rattle.std.proofs.lemmas.List.{drop_more}
-use Rattle.pg_types.specs.Parameters.{with_digit}
+use Rattle.pg_types.specs.Numbers.{with_digit}
 use Rattle.pg_types.specs.Inside.reading.Parts.{number_from}
 use Rattle.pg_words.specs.Inside.Numbers.{at_most}
 use Rattle.pg_words.proofs.DigitValues.{digit_more, too_great}

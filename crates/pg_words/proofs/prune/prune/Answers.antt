@@ -1,11 +1,11 @@
-use Rattle.std.proofs.Common.{[], ◌∷◌, ◌≡◌, ◌∙◌, length, sym, ap, rules}
+use Rattle.std.proofs.Common.{[], ◌∷◌, ◌≡◌, ◌∙◌, ℕ, List, true, length, sym, ap, subst, rules}
 use Rattle.std.proofs.lemmas.List.{length-map}
 use Rattle.std.specs.Prelude.{string_bytes}
 use Rattle.pg_words.specs.Inside.Names.{arguments_of}
-use Rattle.std.specs.Option.{option_map}
+use Rattle.std.specs.Option.{option_map, is_some}
 use Rattle.pg_words.specs.Inside.Requests.{ToPrune}
 use Rattle.pg_words.specs.Inside.forms.Prune.{prune_in}
-use Rattle.pg_words.proofs.AcceptedRequests.{accepted_as}
+use Rattle.pg_words.proofs.AcceptedRequests.{accepted_whole}
 use Rattle.pg_words.proofs.OtherArguments.{not_for_prune}
 use Rattle.pg_words.proofs.ArgumentsAt.{five_arguments}
 use Rattle.pg_words.proofs.prune.prune.Goals as goal
@@ -14,7 +14,7 @@ pub returns-in_default : goal.returns-in_default
 returns-in_default c =
     let count = length-map c.args.words.now string_bytes in
     record {
-      value = ap (option_map ToPrune) (not_for_prune (arguments_of c.args.words.now) (λ (is : length (arguments_of c.args.words.now) ≡ 5). search rules));
+      value = λ taken. ap (option_map ToPrune) (not_for_prune (arguments_of c.args.words.now) (λ (is : length (arguments_of c.args.words.now) ≡ 5). search rules));
       within = tt;
     }
 
@@ -29,8 +29,7 @@ returns c =
     (c.patterns-item.result, c.patterns-item.is, c.as_str-patterns.ensures.value) (c.output-item.result, c.output-item.is, c.as_str-output.ensures.value)
     (c.translate-item.result, c.translate-item.is, c.as_str-translate.ensures.value) (c.report-item.result, c.report-item.is, c.as_str-report.ensures.value) in
     record {
-      value = c.where_accepted.ensures.value
-          ∙ accepted_as ToPrune (d ∷ p ∷ t ∷ []) (o ∷ r ∷ []) (record { dict = d; patterns = p; output = o; translate = t; report = r })
+      value = λ taken. accepted_whole ToPrune (d ∷ p ∷ t ∷ []) (o ∷ r ∷ []) (record { dict = d; patterns = p; output = o; translate = t; report = r }) (subst (λ (ws : List (List ℕ)). is_some (option_map ToPrune (prune_in ws)) ≡ true) parts taken)
           ∙ ap (λ words. option_map ToPrune (prune_in words)) (sym parts);
-      within = c.where_accepted.ensures.within;
+      within = tt;
     }
