@@ -1,2 +1,2 @@
 pub mod ProgramArguments
-pub mod Statuses
+pub mod ProgramCodes

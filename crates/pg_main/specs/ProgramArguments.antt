@@ -11,8 +11,7 @@ use Rattle.pg_main.specs.declared.NoArguments.TheVariants.{Memory, Unreadable}
 
 -- the status where there are no arguments: 5 where memory was short, 6 where the system gave none
 abbrev pub code_of_none : NoArguments → ℕ
-code_of_none Memory = 5
-code_of_none Unreadable = 6
+code_of_none reason = elim reason [ Memory ↦ 5 | Unreadable ↦ 6 ]
 
 -- all arguments after the first, which is the program's name, in their order
 abbrev pub arguments_in : IntoIter (String Global) Global → List (String Global)

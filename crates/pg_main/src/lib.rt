@@ -5,7 +5,7 @@
 ghost use Rattle.std.specs.Prelude.{◌≡◌, ◌≤◌, ◌⊎◌, IfOk, IfErr, MatchResult};
 ghost use Rattle.std.specs.Process.{exit_status};
 ghost use Rattle.pg_main.specs.ProgramArguments.{arguments_in, IsReasonOf};
-ghost use Rattle.pg_main.specs.Statuses.{IsCodeOfRun, IsCodeOfNone};
+ghost use Rattle.pg_main.specs.ProgramCodes.{IsCodeOfRun, IsCodeOfNone};
 
 mod listen;
 mod named;

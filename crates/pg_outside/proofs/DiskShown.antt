@@ -10,8 +10,8 @@ use Rattle.std.proofs.lemmas.Cmp.{nat_list_cmp_total}
 use Rattle.std.proofs.lemmas.Grind.{common_steps}
 use Rattle.std.proofs.lemmas.Map.Text.{is_eq-slice_cmp}
 use Rattle.std.proofs.lemmas.Slice.Eq.{bytes_eq-Decides}
-use Rattle.pg_outside.specs.Content.{FileMap, KeepsHeld, file_at}
-use Rattle.pg_outside.specs.Inside.ToldFiles.{IsFile, IsFileCut, IsTooLong, WasWritten, WasPartWritten}
+use Rattle.pg_outside.specs.Content.{FileMap}
+use Rattle.pg_outside.specs.Inside.ToldFiles.{KeepsHeld, file_at, IsFile, IsFileCut, IsTooLong, WasWritten, WasPartWritten}
 use Rattle.pg_outside.specs.Inside.disk.Disks.{Node, Disk, DiskHistory, Links, KeepsDisk, HoldsNow, HasNoLinks, KnowsPlain, id_at, node_at, node_of}
 use Rattle.pg_outside.specs.Inside.disk.Moments.{RunsCalls, IsWritten, IsSame, HasRest}
 use Rattle.pg_outside.specs.Inside.disk.Writes.{IsPlain, IsContent, IsContentCut, AfterWrite, AfterFailure, mode_at}

@@ -10,7 +10,8 @@ use Rattle.std.proofs.lemmas.Grind.{common_steps}
 use Rattle.std.proofs.lemmas.List.Quantifiers.{position-Some}
 use Rattle.std.proofs.lemmas.Map.Text.{is_eq-slice_cmp}
 use Rattle.std.proofs.lemmas.Slice.Eq.{bytes_eq-Decides}
-use Rattle.pg_outside.specs.Content.{FileMap, file_at}
+use Rattle.pg_outside.specs.Content.{FileMap}
+use Rattle.pg_outside.specs.Inside.ToldFiles.{file_at}
 use Rattle.pg_outside.specs.Inside.memory.StoredFile.{has_name, name_and_bytes, file_map, of_name, room_in, IsIndexOf, IsMissing}
 use Rattle.pg_outside.specs.declared.memory.stored.StoredFile.{StoredFile}
 

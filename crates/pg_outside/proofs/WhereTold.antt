@@ -2,8 +2,8 @@
 use Rattle.std.proofs.Common.{◌≡◌, ℕ, ◌+◌, ◌≤◌, List, ◌++◌, length, Bool, true, false, cond, Option, Some, None, Result, OnOk, IfSome, refl, ap}
 use Rattle.std.specs.FinMap as fin
 use Rattle.std.proofs.lemmas.Result.{on_ok_weaker}
-use Rattle.pg_outside.specs.Content.{FileMap, KeepsHeld, WasPut, file_at}
-use Rattle.pg_outside.specs.Inside.ToldFiles.{IsFile, IsFileCut, IsTooLong, WasWritten}
+use Rattle.pg_outside.specs.Content.{FileMap}
+use Rattle.pg_outside.specs.Inside.ToldFiles.{KeepsHeld, WasPut, file_at, IsFile, IsFileCut, IsTooLong, WasWritten}
 
 pub keeps_same : (held : Option FileMap) → KeepsHeld held held
 keeps_same None = tt

@@ -1,5 +1,5 @@
 -- What files and sinks hold, told or not, and what a call may change of it.
-use Rattle.std.specs.Prelude.{◌≡◌, ℕ, List, ◌++◌, take, Option, Some, MatchOption, IfSome, ◌⊎◌}
+use Rattle.std.specs.Prelude.{◌≡◌, ℕ, List, take, Option, MatchOption, IfSome, ◌⊎◌}
 use Rattle.std.specs.Cmp.Lexicographic.{slice_cmp}
 use Rattle.std.specs.Ordering.{nat_cmp}
 use Rattle.std.specs.FinMap as map
@@ -22,24 +22,11 @@ pub record SinkShown : Type 0 where
   pub faults : ℕ
   pub puts : ℕ
 
--- the file of this name, if there is one
-abbrev pub file_at : FileMap → List ℕ → Option (List ℕ)
-file_at files name = map.get files name
-
--- files that are told after the call were told before it, and are the same
-abbrev pub KeepsHeld : Option FileMap → Option FileMap → Type 0
-KeepsHeld old new = IfSome new (λ files. old ≡ Some files)
+-- what is told after a call was told before it, and P holds of both
+abbrev pub Told : {X : Type 0} → Option X → Option X → (X → X → Type 0) → Type 0
+Told old new P = IfSome new (λ after. MatchOption old ⊥ (λ before. P before after))
 
 -- these files are those before, with this file as it was or set to a prefix of these bytes
 abbrev pub HasPart : FileMap → FileMap → List ℕ → List ℕ → Type 0
 HasPart before after name bytes = (after ≡ before)
     ⊎ ((kept : ℕ) × (after ≡ map.insert before name (take kept bytes)))
-
--- where the sink's bytes are told after the call, they are those told before it and then this text
-abbrev pub WasPut : Option (List ℕ) → Option (List ℕ) → List ℕ → Type 0
-WasPut old new text = IfSome new (λ after. MatchOption old ⊥ (λ before. after ≡ before ++ text))
-
--- where the sink's bytes are told, they are those told before and then a prefix of this text
-abbrev pub WasPartPut : Option (List ℕ) → Option (List ℕ) → List ℕ → Type 0
-WasPartPut old new text = IfSome new (λ after. MatchOption old ⊥ (λ before.
-    (kept : ℕ) × (after ≡ before ++ take kept text)))

@@ -1,7 +1,7 @@
 //! The adapter over standard output.
 ghost use Rattle.std.specs.Prelude.{◌≡◌, ◌≤◌, None, OnOk, OnErr, IsSome};
 ghost use Rattle.std.specs.Io.KnownBytes.{Appends};
-ghost use Rattle.pg_outside.specs.Content.{WasPut, WasPartPut};
+ghost use Rattle.pg_outside.specs.Inside.ToldFiles.{WasPut, WasPartPut};
 ghost use Rattle.pg_outside.specs.Faults.{Rose, next_count};
 ghost use Rattle.pg_outside.specs.Inside.writers.Streams.{AppendsPart};
 

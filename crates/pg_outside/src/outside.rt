@@ -1,7 +1,7 @@
 //! The two traits through which a command reads, writes and prints.
 ghost use Rattle.std.specs.Prelude.{◌≡◌, ◌-◌, ◌^◌, ◌<◌, ◌≤◌, [], OnOk, OnErr};
-ghost use Rattle.pg_outside.specs.Content.{FilesShown, SinkShown, WasPut, WasPartPut};
-ghost use Rattle.pg_outside.specs.Inside.ToldFiles.{IsReadOf, IsWriteOf};
+ghost use Rattle.pg_outside.specs.Content.{FilesShown, SinkShown};
+ghost use Rattle.pg_outside.specs.Inside.ToldFiles.{WasPut, WasPartPut, IsReadOf, IsWriteOf};
 ghost use Rattle.pg_outside.specs.Faults.{next_count, Rose};
 
 use std::alloc::{AllocError, Global};

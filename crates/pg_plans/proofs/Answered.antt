@@ -3,9 +3,9 @@ use Rattle.std.proofs.Common.{◌≡◌, ℕ, List, ◌∷◌, [], ◌++◌, Opt
 use Rattle.std.specs.Option.{IsSomeAnd, option_and_then}
 use Rattle.std.proofs.lemmas.List.{append-nil, append_assoc}
 use Rattle.std.proofs.lemmas.List.Elements.{Contains-append_right}
-use Rattle.pg_outside.specs.Content.{FileMap, FilesShown, SinkShown}
+use Rattle.pg_outside.specs.Content.{FileMap, FilesShown, SinkShown, Told}
 use Rattle.pg_outside.specs.FilesCalls.{FilesCall, Reads, Writes}
-use Rattle.pg_plans.specs.Calls.{Told, Makes, Gets}
+use Rattle.pg_plans.specs.Calls.{Makes, Gets}
 use Rattle.pg_plans.specs.Plans.{Moment, Plan, Reading, Ending, IsShort, Finishes}
 use Rattle.pg_plans.specs.Outcomes.{Outcome, outcome, after_all}
 use Rattle.pg_plans.specs.Laws.{KeepsFiles, HasCause, IsAnswered, EachCallIsAnswered, NoneRose, AnsweredUnlessRose}

@@ -1,7 +1,7 @@
 -- What is told, over several calls.
 use Rattle.std.proofs.Common.{◌≡◌, ℕ, ◌≤◌, Option, None, Some, refl, subst, arith}
 use Rattle.pg_outside.specs.Faults.{Rose}
-use Rattle.pg_plans.specs.Calls.{Told}
+use Rattle.pg_outside.specs.Content.{Told}
 
 module _ {X : Type 0} where
   pub told_same : (h : Option X) → Told h h (λ before after. after ≡ before)

@@ -1,16 +1,13 @@
 -- What one call on files or on a sink leaves. No count ever falls.
-use Rattle.std.specs.Prelude.{◌≡◌, ℕ, ◌≤◌, List, [], ◌∷◌, ◌++◌, take, Option, Some, IfSome, MatchOption, ◌⊎◌, codes}
+use Rattle.std.specs.Prelude.{◌≡◌, ℕ, ◌≤◌, List, [], ◌∷◌, ◌++◌, take, Some, ◌⊎◌, codes}
 use Rattle.std.specs.FinMap as map
-use Rattle.pg_outside.specs.Content.{FileMap, FilesShown, SinkShown}
+use Rattle.pg_outside.specs.Content.{FileMap, FilesShown, SinkShown, Told, HasPart}
 use Rattle.pg_outside.specs.Faults.{Rose, next_count}
 use Rattle.pg_outside.specs.FilesCalls.{FilesCall, Reads, Writes}
 
--- what is told after a call was told before it, and P holds of both
-abbrev pub Told : {X : Type 0} → Option X → Option X → (X → X → Type 0) → Type 0
-Told old new P = IfSome new (λ after. MatchOption old ⊥ (λ before. P before after))
-
 -- this call was made on files, and P holds of the files before and after it
-pub record Makes (call : FilesCall) (P : FileMap → FileMap → Type 0) (old new : FilesShown) : Type 0 where
+pub record Makes (call : FilesCall) (P : FileMap → FileMap → Type 0)
+    (old new : FilesShown) : Type 0 where
   pub calls : new.calls ≡ old.calls ++ call ∷ []
   pub held : Told old.held new.held P
   pub reads : (name : List ℕ) → old.read_faults name ≤ new.read_faults name
@@ -32,8 +29,7 @@ Sets name bytes = Makes (Writes name) (λ before after. after ≡ map.insert bef
 -- a file could not be written: it is as before or a part of these bytes
 abbrev pub SetsPart : List ℕ → List ℕ → FilesShown → FilesShown → Type 0
 SetsPart name bytes old new = Rose (old.write_faults name) (new.write_faults name)
-    × Makes (Writes name) (λ before after. (after ≡ before)
-    ⊎ ((kept : ℕ) × (after ≡ map.insert before name (take kept bytes)))) old new
+    × Makes (Writes name) (λ before after. HasPart before after name bytes) old new
 
 -- one put was made, and P holds of the text before and after it
 pub record MakesPut (P : List ℕ → List ℕ → Type 0) (old new : SinkShown) : Type 0 where

@@ -1,10 +1,9 @@
 -- What is known of each call that follows a plan.
-use Rattle.std.specs.Prelude.{◌≡◌, ℕ, List, [], ◌++◌, Some, Contains, ◌⊎◌, codes}
+use Rattle.std.specs.Prelude.{◌≡◌, ℕ, List, [], ◌++◌, get_or, Some, Contains, ◌⊎◌, codes}
 use Rattle.std.specs.Option.{IsSomeAnd}
-use Rattle.pg_outside.specs.Content.{FilesShown}
+use Rattle.pg_outside.specs.Content.{FilesShown, Told}
 use Rattle.pg_outside.specs.Faults.{Rose}
 use Rattle.pg_outside.specs.FilesCalls.{FilesCall, Reads, Writes}
-use Rattle.pg_plans.specs.Calls.{Told}
 use Rattle.pg_plans.specs.Plans.{Moment, Plan, Follows}
 use Rattle.pg_plans.specs.Outcomes.{outcome, after_all, EachEnding}
 use Rattle.pg_plans.specs.declared.answers.Status.{Status}
@@ -50,11 +49,15 @@ AnsweredUnlessRose = (plan : Plan) (status : Status) (old new : Moment)
     → Follows plan status old new → NoneRose old new → ¬ (status ≡ Memory)
     → IsAnswered plan status old new
 
--- an ending writes files only where it is done, and is neither a fault nor the answer for arguments
--- that are no command
+-- lines begin with an f, as the line of a fault does
+abbrev pub BeginAsFault : List ℕ → Type 0
+BeginAsFault lines = get_or lines 0 0 ≡ 102
+
+-- an ending writes files only where it is done, with lines that begin otherwise than a fault's. It
+-- is neither a fault nor the answer for arguments that are no command
 abbrev pub IsOwn : Status → List (List ℕ × List ℕ) → List ℕ → Type 0
-IsOwn answer writing lines =
-    ((answer ≡ Done) ⊎ (writing ≡ [])) × ¬ (answer ≡ Fault) × ¬ (answer ≡ Usage)
+IsOwn answer writing lines = ((writing ≡ []) ⊎ ((answer ≡ Done) × ¬ BeginAsFault lines))
+    × ¬ (answer ≡ Fault) × ¬ (answer ≡ Usage)
 
 -- files change only where a call is done, or after a fault
 abbrev pub KeptUnlessDone : Type 0
@@ -62,10 +65,10 @@ KeptUnlessDone = (plan : Plan) (status : Status) (old new : Moment) → EachEndi
     → Follows plan status old new → ¬ (status ≡ Done) → ¬ (status ≡ Fault)
     → KeepsFiles old.0 new.0
 
--- where the line says that a file could not be read, and the sink has no fault, no file changed
+-- where the line says that a file could not be read, no file changed
 abbrev pub KeptAfterUnread : Type 0
 KeptAfterUnread = (plan : Plan) (old new : Moment) (name text : List ℕ) → EachEnding IsOwn plan
-    → Follows plan Fault old new → ¬ Rose old.1.faults new.1.faults → old.1.text ≡ Some text
+    → Follows plan Fault old new → old.1.text ≡ Some text
     → new.1.text ≡ Some (text ++ codes "fault: reading " ++ name ++ codes "\n")
     → KeepsFiles old.0 new.0
 

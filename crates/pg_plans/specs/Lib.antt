@@ -1,4 +1,4 @@
-pub mod Statuses
+pub mod ExitCodes
 pub mod Calls
 pub mod Plans
 pub mod Outcomes

@@ -16,7 +16,7 @@ pub data Plan : Type 0 where
   Reading : List ℕ → (List ℕ → Plan) → Plan
   Ending : Status → List (List ℕ × List ℕ) → List ℕ → Plan
 
--- memory was short, and nothing happened
+-- memory was short, and nothing more happened
 abbrev pub IsShort : Status → Moment → Moment → Type 0
 IsShort status old new = (status ≡ Memory) × (new ≡ old)
 

@@ -1,6 +1,6 @@
 //! The answers of a call.
 ghost use Rattle.std.specs.Prelude.{◌≡◌, ◌≤◌};
-ghost use Rattle.pg_plans.specs.Statuses.{code_of};
+ghost use Rattle.pg_plans.specs.ExitCodes.{code_of};
 
 /// How a call ended.
 #[derive(Clone, Copy, Debug, PartialEq, Eq)]

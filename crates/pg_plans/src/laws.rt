@@ -18,7 +18,7 @@ pub fn kept_unless_done()
     ensures { KeptUnlessDone }
 {}
 
-/// Where the line says that a file could not be read, and the sink has no fault, no file changed.
+/// Where the line says that a file could not be read, no file changed.
 pub fn kept_after_unread()
     ensures { KeptAfterUnread }
 {}

@@ -1,15 +1,15 @@
 -- The first bytes of a file, one more than a file may have, are read as the whole file is.
-use Rattle.std.proofs.Common.{◌≡◌, ℕ, ◌+◌, ◌<◌, ◌≤◌, nat_lt, true, false, cond, List, [], ◌∷◌, length, map, flat_map, take, Result, Err, sym, refl, ap, ◌∙◌, arith}
+use Rattle.std.proofs.Common.{◌≡◌, ℕ, ◌+◌, ◌-◌, ◌<◌, ◌≤◌, nat_lt, true, false, cond, List, [], ◌∷◌, length, map, flat_map, take, Result, Err, sym, refl, ap, ◌∙◌, arith}
 use Rattle.std.proofs.lemmas.Bool.{ltb-true, ltb-false, lt-ltb}
 use Rattle.std.proofs.lemmas.List.{take_all, length-take-le}
 use Rattle.std.specs.List.{onto_first}
-use Rattle.pg_types.specs.declared.limits.TheConstants.{FILE_MAX}
+use Rattle.pg_types.specs.declared.limits.TheConstants.{FILE_MAX, LEVEL_MAX}
 use Rattle.pg_types.specs.declared.refusals.Refusal.{Refusal}
 use Rattle.pg_types.specs.declared.refusals.Kind.TheVariants.{TranslateTooLong, ParametersTooLong, PatternsTooLong, DictionaryTooLong}
 use Rattle.pg_types.specs.Lines.{lines, pieces_at, is_line_feed}
 use Rattle.pg_types.specs.Inside.reading.LineEnds.{without_cr}
-use Rattle.pg_types.specs.Parameters.{parameters, parameters_of, items, demands, refusal_from}
-use Rattle.pg_types.specs.ValuesOrRefusals.{unless, refusal_at as refused_in}
+use Rattle.pg_types.specs.Parameters.{Parameters, parameters, items, number_then, levels_then, nothing_then}
+use Rattle.pg_types.specs.ValuesOrRefusals.{refusal_at as refused_in}
 use Rattle.pg_translate.specs.Alphabets.{Alphabet}
 use Rattle.pg_translate.specs.declared.items.Place.TheVariants.{Dictionary, Patterns}
 use Rattle.pg_translate.specs.LineRefusals.{of_lines}
@@ -50,8 +50,16 @@ IsReadUpTo n parse = (whole : List ℕ) → parse (take (n + 1) whole) ≡ parse
 abbrev pub IsReadByFront : {Y : Type 0} → (List ℕ → Result Y Refusal) → Type 0
 IsReadByFront parse = IsReadUpTo FILE_MAX parse
 
+-- what is read of a file that is not too long
+abbrev whole_file : List ℕ → Result Parameters Refusal
+whole_file bytes = number_then 1 LEVEL_MAX (λ start. number_then 1 LEVEL_MAX (λ finish. levels_then (finish + 1 - start) (λ levels. nothing_then (record {
+  start = start;
+  finish = finish;
+  levels = levels;
+})))) 1 (items bytes)
+
 pub parameters-front : IsReadByFront parameters
-parameters-front whole = limited (Err (refused_in 0 ParametersTooLong 0)) (λ bytes. unless (refusal_from 1 (demands (items bytes)) (items bytes)) (parameters_of (items bytes))) FILE_MAX whole
+parameters-front whole = limited (Err (refused_in 0 ParametersTooLong 0)) whole_file FILE_MAX whole
 
 pub words-front : (t : Alphabet) → IsReadByFront (words t)
 words-front t whole = limited (Err (refused_in 0 DictionaryTooLong 0)) (λ bytes. of_lines (line_words 1) t Dictionary (lines bytes)) FILE_MAX whole

@@ -1,7 +1,8 @@
 -- What the clauses of one put say, as a put that was made.
 use Rattle.std.proofs.Common.{◌≡◌, ℕ, ◌≤◌, List, [], ◌∷◌, Result, Ok, Err, inl, inr, refl}
 use Rattle.std.specs.Prelude.{OnOk, OnErr}
-use Rattle.pg_outside.specs.Content.{SinkShown, WasPut, WasPartPut}
+use Rattle.pg_outside.specs.Content.{SinkShown}
+use Rattle.pg_outside.specs.Inside.ToldFiles.{WasPut, WasPartPut}
 use Rattle.pg_outside.specs.Faults.{Rose, next_count}
 use Rattle.pg_plans.specs.Calls.{PutsEach}
 

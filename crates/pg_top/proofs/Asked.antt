@@ -19,14 +19,15 @@ use Rattle.pg_words.specs.Inside.forms.Pack.{PackRequest, pack_in}
 use Rattle.pg_words.specs.Inside.forms.Totals.{TotalsRequest, totals_in}
 use Rattle.pg_words.specs.Inside.forms.Prune.{PruneRequest, prune_in}
 use Rattle.pg_words.specs.Inside.forms.Sweep.{SweepRequest, sweep_in}
-use Rattle.pg_top.specs.Auditing.{audit, audited, is_cells}
+use Rattle.pg_top.specs.Auditing.{audit}
 use Rattle.pg_top.specs.Commands.{plan_of}
-use Rattle.pg_top.specs.Generating.{generate, generated, files_asked, files_of}
+use Rattle.pg_top.specs.Generating.{generate, files_asked, files_of}
 use Rattle.pg_top.specs.Packing.{pack}
 use Rattle.pg_top.specs.Pruning.{prune}
 use Rattle.pg_top.specs.Sampling.{sample, sampled}
 use Rattle.pg_top.specs.Sweeping.{sweep, swept}
 use Rattle.pg_top.specs.Totalling.{totals}
+use Rattle.pg_top.specs.Inside.Plans.{plan_of_audit, plan_of_generate}
 use Rattle.pg_top.specs.Inside.Requests.{plan_by, generate_plan, audit_plan, selected_names, asked_of}
 
 -- a choice after the one or the other
@@ -180,14 +181,14 @@ module _ (d p o t a r : List ℕ) where
 
   -- what `generate` and `audit` do with the options
   abbrev generates : Option (List (Given × List ℕ)) → Option Plan
-  generates asked = option_and_then (λ asked. where_accepted (d ∷ p ∷ t ∷ a ∷ []) (map (λ g. g.1) (files_of o asked r)) (generated d p t a (files_of o asked r))) asked
+  generates asked = option_and_then (λ asked. where_accepted (d ∷ p ∷ t ∷ a ∷ []) (map (λ g. g.1) (files_of o asked r)) (plan_of_generate d p t a (files_of o asked r))) asked
 
   abbrev to_generate : Option FileNames → Option Plan
   to_generate names = option_map plan_by (option_map ToGenerate (option_and_then (λ n. where_accepted (input_names n) (output_names n) n) names))
 
   abbrev audits : Option (List (Given × List ℕ)) → Option Plan
-  audits asked = option_and_then (λ asked. if list_all is_name (d ∷ p ∷ t ∷ a ∷ map (λ g. g.1) (files_of o asked r)) && not (list_any (λ g. is_cells g.0) asked)
-      then Some (audited d p t a (files_of o asked r)) else None) asked
+  audits asked = option_and_then (λ asked. if list_all is_name (d ∷ p ∷ t ∷ a ∷ map (λ g. g.1) (files_of o asked r)) && not (list_any (λ g. elim g.0 [ given.Cells ↦ true | other ↦ false ]) asked)
+      then Some (plan_of_audit d p t a (files_of o asked r)) else None) asked
 
   abbrev to_audit : Option FileNames → Option Plan
   to_audit names = option_map plan_by (option_map ToAudit (option_and_then (λ n. if list_all is_name (input_names n ++ output_names n) && is_none n.cells then Some n else None) names))

@@ -7,7 +7,7 @@ use Rattle.std.specs.Str.{bytes_eq}
 use Rattle.pg_types.specs.Placement.{with_sign}
 use Rattle.pg_types.specs.declared.refusals.Kind.TheVariants.{OutOfRange, ParametersTooLong}
 use Rattle.pg_table.specs.Forms.{is_well_formed}
-use Rattle.pg_table.specs.Numbers.{u16_at, u32_at, u16_bytes, u32_bytes}
+use Rattle.pg_table.specs.Numbers.{number_of_bytes, bytes_of_number}
 use Rattle.pg_table.specs.Texts.{table_text}
 use Rattle.pg_plans.specs.Plans.{Plan, Reading, Ending}
 use Rattle.pg_plans.specs.Outcomes.{Outcome}
@@ -16,8 +16,9 @@ use Rattle.pg_plans.specs.declared.answers.Status.TheVariants.{Done, Yes, No, Re
 use Rattle.pg_steps.specs.RefusedLines.{refused_line}
 use Rattle.pg_steps.specs.declared.inputs.Input.TheVariants as input
 use Rattle.pg_top.specs.Commands.{plan_of}
-use Rattle.pg_top.specs.Sampling.{ending, syllable, word, sample_text}
-use Rattle.pg_top.specs.Selection.{selection, selected_patterns, selected_totals, selected_text, selected_list, selected_cells_text, selected_report}
+use Rattle.pg_top.specs.Sampling.{with_syllable, with_word, sample_text}
+use Rattle.pg_steps.specs.declared.inputs.Given.TheVariants as given
+use Rattle.pg_top.specs.Selection.{selection, selected_patterns, selected_file}
 
 -- what the arguments come to over files; none where they are no command, or a file that is read is not there
 comes : (List ℕ → Option (List ℕ)) → Plan → Option Outcome
@@ -70,7 +71,7 @@ output_is_set = refl
 
 -- one word of `sample`
 one_word : sample_text 1 1 ≡ codes "so-ni-gi-din\n"
-unfolding word syllable ending
+unfolding with_word with_syllable
 one_word = refl
 
 -- files with these words under the letters a, b and c, and with two passes of one level; further files have their names beside them
@@ -98,7 +99,7 @@ one_pattern : calls (files (codes "ab-c\nab-a\n") []) (six (codes "generate") (c
     )
     ∷ [])
     (codes "done: 1 patterns, 2 good, 0 bad, 0 missed\nwork: 3 passes, 5 taken, top 9, 1 tails\n")
-unfolding calls comes ends six files found selection selected_patterns selected_totals selected_text selected_list selected_cells_text selected_report digits with_sign
+unfolding calls comes ends six files found selection selected_patterns selected_file digits with_sign
 one_pattern = refl
 
 -- the third line of the dictionary is refused
@@ -116,15 +117,15 @@ right_report = codes "pass 1 2 1: 0 good, 0 bad, 2 missed; 3 candidates, 0 chose
     ++ codes "rate: 100.00 % good, 0.00 % bad, 0.00 % missed\n"
 
 right_files : calls (files (codes "ab-c\nab-a\n") ((codes "O", codes "ab1\n") ∷ (codes "R", right_report) ∷ [])) (six (codes "audit") []) ≡ ends Yes [] (codes "yes\n")
-unfolding calls comes ends six files found selection selected_patterns selected_text selected_report right_report digits
+unfolding calls comes ends six files found selection selected_patterns selected_file right_report digits
 right_files = refl
 
 no_line_feed : calls (files (codes "ab-c\nab-a\n") ((codes "O", codes "ab1") ∷ [])) (six (codes "audit") []) ≡ ends No [] (codes "no: patterns line 1 found ab1 and the file ends\n")
-unfolding calls comes ends six files found selection selected_patterns selected_text digits
+unfolding calls comes ends six files found selection selected_patterns selected_file digits
 no_line_feed = refl
 
 empty_file : calls (files (codes "ab-c\nab-a\n") ((codes "O", []) ∷ [])) (six (codes "audit") []) ≡ ends No [] (codes "no: patterns line 1 is missing\n")
-unfolding calls comes ends six files found selection selected_patterns selected_text digits
+unfolding calls comes ends six files found selection selected_patterns selected_file digits
 empty_file = refl
 
 -- no file is held
@@ -156,12 +157,12 @@ packed_pattern =
 
 packs : calls (found ((codes "T", codes " 1 1\n a\n b\n c\n") ∷ (codes "P", codes "ab1\n") ∷ [])) (codes "pack" ∷ codes "P" ∷ codes "T" ∷ codes "B" ∷ [])
     ≡ ends Done ((codes "B", packed_pattern) ∷ []) (codes "packed: 1 patterns, 82 bytes\n")
-unfolding calls comes ends found packed_pattern table_text u16_bytes u32_bytes digits with_sign
+unfolding calls comes ends found packed_pattern table_text bytes_of_number digits with_sign
 packs = refl
 
 other_letters : calls (found ((codes "T", []) ∷ (codes "D", []) ∷ (codes "B", packed_pattern) ∷ [])) (codes "totals" ∷ codes "D" ∷ codes "T" ∷ codes "B" ∷ [])
     ≡ ends Refused [] (codes "refused: table 603 OtherTable\n")
-unfolding calls comes ends found packed_pattern is_well_formed u16_at u32_at digits
+unfolding calls comes ends found packed_pattern is_well_formed number_of_bytes digits
 other_letters = refl
 
 -- the second parameter file of `sweep` is refused

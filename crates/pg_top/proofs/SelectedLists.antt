@@ -5,7 +5,7 @@ use Rattle.std.proofs.lemmas.Simd.{map-map}
 use Rattle.pg_steps.specs.declared.inputs.Given.{Given}
 use Rattle.pg_steps.specs.declared.inputs.Given.TheVariants as given
 use Rattle.pg_words.specs.Inside.forms.Generate.{FileNames, if_asked}
-use Rattle.pg_top.specs.Selection.{selected_text, selected_list, selected_cells_text, selected_report, selected_file}
+use Rattle.pg_top.specs.Selection.{selected_file}
 use Rattle.pg_top.specs.Inside.Requests.{selected_names}
 use Rattle.pg_top.specs.Inside.selection.SelectedFiles.{made_file, made_files, written_file, due_files, selected_files}
 use Rattle.pg_top.specs.declared.selected_files.SelectedFile.{SelectedFile}
@@ -17,10 +17,10 @@ one_made fs f = map-append made_file fs (f ∷ [])
 -- the files as they are added one after the other
 abbrev pub added_files : FileNames → Inputs → List (Given × List ℕ × List ℕ)
 added_files n i =
-    let first : List (Given × List ℕ × List ℕ) = (given.Patterns, n.output, selected_text i) ∷ [] in
-    let list : List (Given × List ℕ × List ℕ) = if_asked n.pattmp (λ name. (given.Pattmp, name, selected_list i)) in
-    let cells : List (Given × List ℕ × List ℕ) = if_asked n.cells (λ name. (given.Cells, name, selected_cells_text i)) in
-    let last : List (Given × List ℕ × List ℕ) = (given.Report, n.report, selected_report i) ∷ [] in
+    let first : List (Given × List ℕ × List ℕ) = (given.Patterns, n.output, selected_file i given.Patterns) ∷ [] in
+    let list : List (Given × List ℕ × List ℕ) = if_asked n.pattmp (λ name. (given.Pattmp, name, selected_file i given.Pattmp)) in
+    let cells : List (Given × List ℕ × List ℕ) = if_asked n.cells (λ name. (given.Cells, name, selected_file i given.Cells)) in
+    let last : List (Given × List ℕ × List ℕ) = (given.Report, n.report, selected_file i given.Report) ∷ [] in
     ((first ++ list) ++ cells) ++ last
 
 -- with the hyphenated list and the cells file, and without them

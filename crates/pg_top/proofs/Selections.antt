@@ -1,14 +1,13 @@
 -- What the driver gives over a new engine is the selection.
-use Rattle.std.proofs.Common.{◌≡◌, ℕ, List, [], ◌∷◌, ◌++◌, Option, None, Some, map, codes, decimal, refl, ap, subst, ◌∙◌, append_assoc}
-use Rattle.pg_translate.specs.Gaps.{last_else}
+use Rattle.std.proofs.Common.{◌≡◌, ℕ, List, [], ◌∷◌, ◌++◌, Option, None, Some, map, codes, decimal, refl, sym, ap, subst, ◌∙◌, append_assoc}
+use Rattle.pg_translate.specs.Inside.items.GapItems.{last_else}
 use Rattle.std.specs.Option.{option_map}
 use Rattle.pg_types.specs.declared.marks.Layout.{Layout}
 use Rattle.pg_types.specs.Placement.{Families}
 use Rattle.pg_select.specs.Inside.engine.Meanings.{Meaning}
 use Rattle.pg_driver.specs.declared.records.LevelRecord.{LevelRecord}
 use Rattle.pg_driver.specs.Accounts.{begun_count}
-use Rattle.pg_driver.specs.Layouts.{families_at_end}
-use Rattle.pg_driver.specs.Traces.{source_of}
+use Rattle.pg_select.specs.Sums.{totals as totals_by}
 use Rattle.pg_driver.specs.Inside.records.CellsAccounts.{CellsAccount, layout_of}
 use Rattle.pg_driver.specs.Inside.records.SoundRecords.{CompletedRun}
 use Rattle.pg_driver.specs.Inside.records.RunAccounts.{patterns_from, account_from, begun_from, cells_from, TellsCells, level_record_layout}
@@ -16,13 +15,15 @@ use Rattle.pg_driver.specs.Inside.records.AccountLines.{Account}
 use Rattle.pg_packed.specs.Inside.Starts.{pattern_families}
 use Rattle.pg_patterns.specs.Texts.{pattern_text}
 use Rattle.pg_patterns.specs.Values.{Patterns, largest}
-use Rattle.pg_texts.specs.CellsTexts.{layout_text}
+use Rattle.pg_texts.specs.CellsTexts.{families_at_end, layout_text}
 use Rattle.pg_texts.specs.Inside.CellsLines.{account_cells_text}
 use Rattle.pg_texts.specs.Inside.ReportLines.{account_text}
 use Rattle.pg_texts.specs.PattmpTexts.{pattmp_text}
+use Rattle.pg_texts.proofs.CellsScans.{end_scanned}
 use Rattle.pg_texts.proofs.TraceTexts.{cells_same, last_same, report_same}
 use Rattle.pg_top.specs.Inside.selection.Runs.{last_layout_told}
-use Rattle.pg_top.specs.Selection.{selection, selected_patterns, selected_totals, selected_text, selected_list, selected_cells_text, selected_report}
+use Rattle.pg_steps.specs.declared.inputs.Given.TheVariants as given
+use Rattle.pg_top.specs.Selection.{selection, selected_patterns, selected_file}
 use Rattle.pg_top.specs.Inside.selection.SelectionSigns.{greatest_sign_of}
 use Rattle.pg_top.specs.Inside.selection.SelectionAccounts.{selected_account, passes_begun, selected_cells_from, selected_cells, last_layout, work_line}
 use Rattle.pg_top.specs.Inside.selection.SelectedRuns.{IsNew}
@@ -73,25 +74,25 @@ unfolding selected_cells
 cells_packed i fs r is tells = subst (λ fs. TellsCells (option_map (selected_cells_from i) fs) r) is tells
 
 -- the texts of the selection
-pub text_selected : (i : Inputs) (P : Patterns) → P ≡ selected_patterns i → pattern_text i.table P ≡ selected_text i
-unfolding selected_text
+pub text_selected : (i : Inputs) (P : Patterns) → P ≡ selected_patterns i → pattern_text i.table P ≡ selected_file i given.Patterns
+unfolding selected_file
 text_selected i P is = ap (pattern_text i.table) is
 
-pub list_selected : (i : Inputs) (P : Patterns) → P ≡ selected_patterns i → pattmp_text i.table P i.dictionary ≡ selected_list i
-unfolding selected_list
+pub list_selected : (i : Inputs) (P : Patterns) → P ≡ selected_patterns i → pattmp_text i.table P i.dictionary ≡ selected_file i given.Pattmp
+unfolding selected_file
 list_selected i P is = ap (λ P. pattmp_text i.table P i.dictionary) is
 
-pub cells_text_selected : (i : Inputs) → account_cells_text (selected_cells i) ≡ selected_cells_text i
-unfolding selection selected_cells selected_cells_from selected_cells_text
-cells_text_selected i = cells_same (source_of i.table i.dictionary) i.params (greatest_sign_of i) i.start
+pub cells_text_selected : (i : Inputs) → account_cells_text (selected_cells i) ≡ selected_file i given.Cells
+unfolding selection selected_cells selected_cells_from selected_file
+cells_text_selected i = cells_same i.table i.dictionary i.params (greatest_sign_of i) i.start
 
-pub report_selected : (i : Inputs) (value : ℕ) (a : Account) → value ≡ largest i.start → a ≡ selected_account i → account_text value i.params a ≡ selected_report i
-unfolding selection selected_account selected_report
-report_selected i value a same is = (λ k. account_text (same k) i.params (is k)) ∙ report_same (source_of i.table i.dictionary) i.params i.start
+pub report_selected : (i : Inputs) (value : ℕ) (a : Account) → value ≡ largest i.start → a ≡ selected_account i → account_text value i.params a ≡ selected_file i given.Report
+unfolding selection selected_account selected_file
+report_selected i value a same is = (λ k. account_text (same k) i.params (is k)) ∙ report_same i.table i.dictionary i.params i.start
 
 -- the totals, and the last line of `generate`
-pub totals_selected : (i : Inputs) → (selected_account i).totals ≡ selected_totals i
-unfolding selected_patterns selected_account selected_totals
+pub totals_selected : (i : Inputs) → (selected_account i).totals ≡ totals_by i.table i.dictionary (selected_patterns i)
+unfolding selected_patterns selected_account
 totals_selected i = refl
 
 behind : (x a b c d : List ℕ) → x ++ (a ++ b ++ c ++ d) ≡ x ++ a ++ b ++ c ++ d
@@ -102,6 +103,7 @@ pub end_selected : (i : Inputs) (x : List ℕ) → x ++ work_line (passes_begun 
 unfolding selected_patterns passes_begun selected_cells selected_cells_from
 end_selected i x =
     let last : last_layout (selected_cells i) ≡ layout_of (families_at_end (greatest_sign_of i) i.start (selection i)) (selected_patterns i) =
-    last_same (greatest_sign_of i) (pattern_families (greatest_sign_of i) i.start) i.start (selection i) in
+    last_same (greatest_sign_of i) (pattern_families (greatest_sign_of i) i.start) i.start (selection i)
+    ∙ ap (λ (fs : Families). layout_of fs (selected_patterns i)) (sym (end_scanned (greatest_sign_of i) i.start (selection i))) in
     ap (λ (l : Layout). x ++ work_line (begun_count (selection i)) l) last
     ∙ behind x (codes "work: ") (decimal (begun_count (selection i))) (codes " passes, ") (layout_text (families_at_end (greatest_sign_of i) i.start (selection i)) (selected_patterns i))

@@ -1,3 +1,4 @@
+pub mod MadeLines
 pub mod SampleWords
 pub mod SampleReads
 pub mod SampleSteps

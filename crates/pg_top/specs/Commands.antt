@@ -1,5 +1,5 @@
 -- The plan of what the arguments of a call ask for, and the whole of a call.
-use Rattle.std.specs.Prelude.{◌≡◌, ℕ, if◌then◌else◌, List, [], ◌∷◌, Option, None, MatchOption, codes}
+use Rattle.std.specs.Prelude.{◌≡◌, ℕ, if◌then◌else◌, List, [], ◌∷◌, Option, None, Some, MatchOption, codes}
 use Rattle.std.specs.Str.{bytes_eq}
 use Rattle.pg_plans.specs.Plans.{Moment, Plan, Reading, Ending, Finishes, Follows}
 use Rattle.pg_plans.specs.declared.answers.Status.{Status}
@@ -29,11 +29,8 @@ abbrev pub IsRun : List (List ℕ) → Status → Moment → Moment → Type 0
 IsRun arguments status old new = MatchOption (plan_of arguments)
     (Finishes [] usage_line Usage status old new) (λ plan. Follows plan status old new)
 
--- this plan reads no file and writes none
-abbrev pub ReadsNone : Plan → Type 0
-ReadsNone (Ending answer [] lines) = Unit {0}
-ReadsNone plan = ⊥
-
 -- no file is read or written, as where the arguments are no command
 abbrev pub CallsNoFile : Option Plan → Type 0
-CallsNoFile plan = MatchOption plan (Unit {0}) ReadsNone
+CallsNoFile None = Unit {0}
+CallsNoFile (Some (Ending answer [] lines)) = Unit {0}
+CallsNoFile plan = ⊥

@@ -8,8 +8,7 @@ use Rattle.pg_translate.specs.Tables.{table}
 use Rattle.pg_dict.specs.DictionaryWords.{words}
 use Rattle.pg_patterns.specs.Starts.{start}
 use Rattle.pg_driver.specs.Accounts.{begun_count}
-use Rattle.pg_driver.specs.Layouts.{families_at_end}
-use Rattle.pg_texts.specs.CellsTexts.{layout_text}
+use Rattle.pg_texts.specs.CellsTexts.{families_at_end, layout_text}
 use Rattle.pg_plans.specs.Plans.{Plan, Ending}
 use Rattle.pg_plans.specs.declared.answers.Status.TheVariants.{Done}
 use Rattle.pg_steps.specs.InputPlans.{input}
@@ -18,7 +17,7 @@ use Rattle.pg_steps.specs.declared.inputs.Given.TheVariants as given
 use Rattle.pg_steps.specs.declared.inputs.Input.TheVariants.{Translate, Parameters, Patterns, Dictionary}
 use Rattle.pg_words.specs.AcceptedNames.{where_accepted}
 use Rattle.pg_top.specs.PrintedLines.{done_line}
-use Rattle.pg_top.specs.Selection.{selection, selected_patterns, selected_totals, selected_text, selected_file}
+use Rattle.pg_top.specs.Selection.{selection, selected_patterns, selected_file}
 use Rattle.pg_top.specs.declared.selection.Inputs.{Inputs}
 
 -- what a selection is made of is read in this order
@@ -29,15 +28,9 @@ selection_from d p t a next = input Translate t table (λ T. input Parameters a 
 
 -- the lines that are put: the `done:` line, and one with the passes begun and the last layout
 abbrev pub selected_lines : Inputs → List ℕ
-selected_lines i = done_line (selected_text i) (selected_totals i)
-    ++ codes "work: " ++ decimal (begun_count (selection i)) ++ codes " passes, "
-    ++ layout_text (families_at_end (letters_of i.table + 1) i.start (selection i))
-    (selected_patterns i)
-
--- the plan of `generate`, which writes these files
-abbrev pub generated : (d p t a : List ℕ) → List (Given × List ℕ) → Plan
-generated d p t a files = selection_from d p t a (λ i.
-    Ending Done (map (λ g. (g.1, selected_file i g.0)) files) (selected_lines i))
+selected_lines i = done_line i ++ codes "work: " ++ decimal (begun_count (selection i))
+    ++ codes " passes, " ++ layout_text
+    (families_at_end (letters_of i.table + 1) i.start (selection i)) (selected_patterns i)
 
 -- the file that an option asks for
 abbrev pub option_asked : List ℕ → List ℕ → Option (Given × List ℕ)
@@ -54,7 +47,7 @@ files_asked (first ∷ one ∷ second ∷ two ∷ []) =
     then Some ((given.Pattmp, one) ∷ (given.Cells, two) ∷ [])
     else (if bytes_eq first (codes "--cells") && bytes_eq second (codes "--pattmp")
     then Some ((given.Pattmp, two) ∷ (given.Cells, one) ∷ []) else None)
-files_asked words = None
+files_asked arguments = None
 
 -- the files of a selection in their order: the patterns, those asked for, and the report
 abbrev pub files_of : List ℕ → List (Given × List ℕ) → List ℕ → List (Given × List ℕ)
@@ -63,6 +56,8 @@ files_of output asked report = (given.Patterns, output) ∷ asked ++ (given.Repo
 -- `generate DICT PATTERNS OUT TRANSLATE PARAMS REPORT`, then `--pattmp FILE` and `--cells FILE`
 abbrev pub generate : List (List ℕ) → Option Plan
 generate (d ∷ p ∷ o ∷ t ∷ a ∷ r ∷ options) = option_and_then (λ asked.
-    where_accepted (d ∷ p ∷ t ∷ a ∷ []) (map (λ g. g.1) (files_of o asked r))
-    (generated d p t a (files_of o asked r))) (files_asked options)
-generate words = None
+    let files = files_of o asked r in
+    where_accepted (d ∷ p ∷ t ∷ a ∷ []) (map (λ g. g.1) files) (selection_from d p t a
+    (λ i. Ending Done (map (λ g. (g.1, selected_file i g.0)) files) (selected_lines i))))
+    (files_asked options)
+generate arguments = None

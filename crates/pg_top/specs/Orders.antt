@@ -1,10 +1,10 @@
 -- In which order a call reads, writes and puts, each once.
 use Rattle.std.specs.Prelude.{◌≡◌, ℕ, List, [], ◌∷◌, ◌++◌, map, ◌⊎◌, All, Some, codes}
 use Rattle.std.specs.FinMap as fin
-use Rattle.pg_outside.specs.Content.{HasPart}
+use Rattle.pg_outside.specs.Content.{HasPart, Told}
 use Rattle.pg_outside.specs.Faults.{Rose}
 use Rattle.pg_outside.specs.FilesCalls.{FilesCall, Reads, Writes}
-use Rattle.pg_plans.specs.Calls.{Told, Puts, PutsPart, PutsFault}
+use Rattle.pg_plans.specs.Calls.{Puts, PutsPart, PutsFault}
 use Rattle.pg_plans.specs.Outcomes.{after_all}
 use Rattle.pg_plans.specs.Plans.{Moment, Plan, Reading, Ending}
 use Rattle.pg_plans.specs.declared.answers.Status.{Status}

@@ -4,11 +4,10 @@ use Rattle.pg_types.specs.Lines.{lines}
 use Rattle.pg_types.specs.ValuesOrRefusals.{refusal_at}
 use Rattle.pg_types.specs.declared.packed_table.TheConstants.{TABLE_MAX}
 use Rattle.pg_types.specs.declared.refusals.Kind.TheVariants.{TableTooLong}
-use Rattle.pg_translate.specs.Alphabets.{Alphabet, letters_of}
+use Rattle.pg_translate.specs.Alphabets.{letters_of}
 use Rattle.pg_translate.specs.Tables.{table}
 use Rattle.pg_patterns.specs.Starts.{start}
 use Rattle.pg_patterns.specs.Texts.{pattern_text}
-use Rattle.pg_patterns.specs.Values as patterns
 use Rattle.pg_table.specs.Texts.{table_text}
 use Rattle.pg_plans.specs.Plans.{Plan, Ending}
 use Rattle.pg_plans.specs.declared.answers.Status.TheVariants.{Done, Refused}
@@ -22,18 +21,11 @@ abbrev pub packed_line : List ℕ → List ℕ → List ℕ
 packed_line patterns table = codes "packed: " ++ decimal (length (lines patterns))
     ++ codes " patterns, " ++ decimal (length table) ++ codes " bytes\n"
 
--- the end of `pack`: the packed table is written under this name, unless it is too long
-abbrev pub table_packed : List ℕ → Alphabet → patterns.Patterns → Plan
-table_packed name T P = let text = table_text (letters_of T + 1) P in
+-- `pack PATTERNS TRANSLATE TABLE`: the packed table is written, unless it is too long
+abbrev pub pack : List (List ℕ) → Option Plan
+pack (p ∷ t ∷ o ∷ []) = where_accepted (p ∷ t ∷ []) (o ∷ []) (input Translate t table (λ T.
+    input Patterns p (start T) (λ P. let text = table_text (letters_of T + 1) P in
     if nat_lt TABLE_MAX (length text)
     then Ending Refused [] (refused_line Table (refusal_at 0 TableTooLong 0))
-    else Ending Done ((name, text) ∷ []) (packed_line (pattern_text T P) text)
-
--- the plan of `pack`
-abbrev pub packed : (p t o : List ℕ) → Plan
-packed p t o = input Translate t table (λ T. input Patterns p (start T) (table_packed o T))
-
--- `pack PATTERNS TRANSLATE TABLE`, where the table is an output
-abbrev pub pack : List (List ℕ) → Option Plan
-pack (p ∷ t ∷ o ∷ []) = where_accepted (p ∷ t ∷ []) (o ∷ []) (packed p t o)
-pack words = None
+    else Ending Done ((o, text) ∷ []) (packed_line (pattern_text T P) text))))
+pack arguments = None

@@ -3,15 +3,13 @@ use Rattle.std.specs.Prelude.{◌≡◌, ℕ, ◌+◌, List, [], ◌∷◌, Some
 use Rattle.std.specs.Option.{IsSome}
 use Rattle.pg_dict.specs.DictionaryWords.{words}
 use Rattle.pg_dict.specs.Word.{Word}
-use Rattle.pg_outside.specs.Content.{FileMap, FilesShown}
+use Rattle.pg_outside.specs.Content.{FileMap, FilesShown, Told}
 use Rattle.pg_patterns.specs.Starts.{start}
 use Rattle.pg_patterns.specs.Values.{Patterns, value_at}
-use Rattle.pg_plans.specs.Calls.{Told}
 use Rattle.pg_plans.specs.Plans.{Moment}
 use Rattle.pg_plans.specs.declared.answers.Status.{Status}
 use Rattle.pg_plans.specs.declared.answers.Status.TheVariants.{Done}
 use Rattle.pg_prune.specs.Prunes.{pruning_of}
-use Rattle.pg_select.specs.CountedPositions.{Minima, minima_of}
 use Rattle.pg_select.specs.Sums.{totals}
 use Rattle.pg_table.specs.Lookups.{table_value, table_totals}
 use Rattle.pg_table.specs.Texts.{table_text}
@@ -27,7 +25,7 @@ use Rattle.pg_top.specs.declared.selection.Inputs.{Inputs}
 -- a packed table gives each position of each word the value of the patterns, and so their totals
 pub record GivesValues (bytes : List ℕ) (P : Patterns) : Type 0 where
   pub values : (w : List ℕ) (p : ℕ) → table_value bytes w p ≡ value_at P w p
-  pub totals : (m : Minima) (ws : List Word) → table_totals m ws bytes ≡ totals m ws P
+  pub totals : (m : Alphabet) (ws : List Word) → table_totals m ws bytes ≡ totals m ws P
 
 -- the packed table of patterns is accepted by `totals`, and gives their values
 pub record IsGoodTable (t : Alphabet) (P : Patterns) (bytes : List ℕ) : Type 0 where
@@ -51,7 +49,7 @@ pub record PrunePromise (files : FileMap) (d p t : List ℕ) : Type 0 where
   pub entries : Means (start alphabet) files p patterns
   pub words : Means (words alphabet) files d dictionary
   pub reads_back : ReadsBackPatterns alphabet
-      (pruning_of (minima_of alphabet) dictionary patterns).patterns
+      (pruning_of alphabet dictionary patterns).patterns
 
 -- what `generate` writes is read back
 pub record GeneratePromise (files : FileMap) (d p t a : List ℕ) : Type 0 where
@@ -80,4 +78,4 @@ TotalsOfPacked = (p t o d : List ℕ) (old mid next new : Moment)
     → mid.0.held ≡ Some files → next.0.held ≡ Some files → IsSome new.0.held
     → (T : Alphabet) × (P : Patterns) × (W : List Word) × Means table files t T
     × Means (start T) files p P × Means (words T) files d W
-    × PutsLines next new (ending_text (totals (minima_of T) W P))
+    × PutsLines next new (ending_text (totals T W P))

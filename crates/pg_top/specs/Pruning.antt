@@ -1,13 +1,11 @@
 -- What `prune` writes and prints.
 use Rattle.std.specs.Prelude.{ℕ, List, [], ◌∷◌, ◌++◌, length, codes, decimal, Option, None}
-use Rattle.pg_translate.specs.Alphabets.{Alphabet}
 use Rattle.pg_translate.specs.Tables.{table}
 use Rattle.pg_dict.specs.DictionaryWords.{words}
 use Rattle.pg_patterns.specs.Starts.{start}
 use Rattle.pg_patterns.specs.Texts.{pattern_text}
-use Rattle.pg_prune.specs.Prunes.{Pruning, pruning_of}
+use Rattle.pg_prune.specs.Prunes.{pruning_of}
 use Rattle.pg_prune.specs.Reports.{prune_report}
-use Rattle.pg_select.specs.CountedPositions.{minima_of}
 use Rattle.pg_plans.specs.Plans.{Plan, Ending}
 use Rattle.pg_plans.specs.declared.answers.Status.TheVariants.{Done}
 use Rattle.pg_steps.specs.InputPlans.{input}
@@ -20,18 +18,11 @@ abbrev pub rounds_line : ℕ → ℕ → ℕ → List ℕ
 rounds_line rounds removed kept = codes "done: " ++ decimal rounds ++ codes " rounds, "
     ++ decimal removed ++ codes " removed, " ++ decimal kept ++ codes " kept\n"
 
--- the end of `prune`, which writes the patterns that stay and a report, where pruning finds this
-abbrev pub pruning_ended : (o r : List ℕ) → Alphabet → Pruning → Plan
-pruning_ended o r T found = Ending Done
-    ((o, pattern_text T found.patterns) ∷ (r, prune_report T found) ∷ [])
-    (rounds_line found.rounds found.removed (length found.patterns))
-
--- the plan of `prune`
-abbrev pub pruned : (d p o t r : List ℕ) → Plan
-pruned d p o t r = input Translate t table (λ T. input Patterns p (start T) (λ P.
-    input Dictionary d (words T) (λ W. pruning_ended o r T (pruning_of (minima_of T) W P))))
-
--- `prune DICT PATTERNS OUT TRANSLATE REPORT`
+-- `prune DICT PATTERNS OUT TRANSLATE REPORT`: the patterns that stay are written, and a report
 abbrev pub prune : List (List ℕ) → Option Plan
-prune (d ∷ p ∷ o ∷ t ∷ r ∷ []) = where_accepted (d ∷ p ∷ t ∷ []) (o ∷ r ∷ []) (pruned d p o t r)
-prune words = None
+prune (d ∷ p ∷ o ∷ t ∷ r ∷ []) = where_accepted (d ∷ p ∷ t ∷ []) (o ∷ r ∷ [])
+    (input Translate t table (λ T. input Patterns p (start T) (λ P. input Dictionary d (words T)
+    (λ W. let found = pruning_of T W P in
+    Ending Done ((o, pattern_text T found.patterns) ∷ (r, prune_report T found) ∷ [])
+    (rounds_line found.rounds found.removed (length found.patterns))))))
+prune arguments = None

@@ -7,7 +7,8 @@ use Rattle.pg_patterns.specs.Texts.{pattern_text}
 use Rattle.pg_patterns.specs.Values.{Patterns}
 use Rattle.pg_texts.specs.PattmpTexts.{is_taking_part}
 use Rattle.pg_translate.specs.Alphabets.{Alphabet}
-use Rattle.pg_top.specs.Selection.{selected_list, selected_patterns}
+use Rattle.pg_steps.specs.declared.inputs.Given.TheVariants as given
+use Rattle.pg_top.specs.Selection.{selected_file, selected_patterns}
 use Rattle.pg_top.specs.declared.selection.Inputs.{Inputs}
 
 -- the text of patterns is read as these patterns, where it is no longer than a pattern file may be
@@ -18,5 +19,6 @@ ReadsBackPatterns t P = length (pattern_text t P) ≤ FILE_MAX → start t (patt
 -- take part, where that is no longer than a dictionary may be
 pub record ReadsBackSelected (i : Inputs) : Type 0 where
   pub patterns : ReadsBackPatterns i.table (selected_patterns i)
-  pub list : length (selected_list i) ≤ FILE_MAX
-      → words i.table (selected_list i) ≡ Ok (filter (is_taking_part i.table) i.dictionary)
+  pub list : length (selected_file i given.Pattmp) ≤ FILE_MAX
+      → words i.table (selected_file i given.Pattmp)
+      ≡ Ok (filter (is_taking_part i.table) i.dictionary)

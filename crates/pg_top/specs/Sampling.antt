@@ -1,10 +1,11 @@
 -- The dictionary of `sample`, as a text made from a number, and what the command prints.
-use Rattle.std.specs.Prelude.{ℕ, zero, suc, ◌+◌, ◌==◌, Bool, ◌||◌, nat_eq, if◌then◌else◌, List, [], ◌∷◌, ◌++◌, filter, flat_map, slice_index, codes, Option, None}
-use Rattle.std.specs.List.{starts_with}
+use Rattle.std.specs.Prelude.{ℕ, ◌+◌, ◌==◌, nat_eq, if◌then◌else◌, List, [], ◌∷◌, ◌++◌, length, fold, filter, flat_map, slice_index, codes, Option, None}
+use Rattle.std.specs.List.{list_any, range_with_len, starts_with}
 use Rattle.std.specs.Option.{option_and_then, option_map}
-use Rattle.pg_draws.specs.DrawnNumbers.{next_state, draw}
+use Rattle.pg_draws.specs.DrawnNumbers.{drawn}
 use Rattle.pg_types.specs.Lines.{lines}
-use Rattle.pg_types.specs.Parameters.{Parameters, items, parameters_of}
+use Rattle.pg_types.specs.declared.parameters.LevelParams.{LevelParams}
+use Rattle.pg_types.specs.Parameters.{Parameters}
 use Rattle.pg_translate.specs.Tables.{default_alphabet}
 use Rattle.pg_dict.specs.Word.{Word}
 use Rattle.pg_dict.specs.DictionaryWords.{words}
@@ -15,65 +16,51 @@ use Rattle.pg_steps.specs.declared.inputs.Input.TheVariants.{Dictionary}
 use Rattle.pg_words.specs.NumbersWithin.{number_within}
 use Rattle.pg_words.specs.declared.limits.TheConstants.{SEED_MAX, COUNT_MAX, SAMPLE_DIGITS}
 use Rattle.pg_top.specs.PrintedLines.{done_line}
-use Rattle.pg_top.specs.Selection.{selected_text, selected_report, selected_totals}
+use Rattle.pg_steps.specs.declared.inputs.Given.TheVariants as given
+use Rattle.pg_top.specs.Selection.{selected_file}
 use Rattle.pg_top.specs.declared.selection.Inputs.{Inputs}
 
--- a text that was made, and the state behind it
-pub record MadeText : Type 0 where
-  pub text : List ℕ
-  pub state : ℕ
+-- a text so far and the state of the draws, with one letter more, which is drawn from these
+abbrev pub with_letter : List ℕ → List ℕ × ℕ → List ℕ × ℕ
+with_letter letters made = let d = drawn (length letters) made.1 in
+    (made.0 ++ slice_index letters d.0 ∷ [], d.1)
 
--- the end of a syllable: in one of four cases a consonant, else nothing
-unfoldable pub ending : ℕ → MadeText
-ending x = let y = next_state x in if draw 4 x == 0
-    then record { text = slice_index (codes "nrs") (draw 3 y) ∷ []; state = y }
-    else record { text = []; state = x }
+-- with a syllable more: a consonant, a vowel, and in one of four cases a last consonant
+unfoldable pub with_syllable : List ℕ × ℕ → List ℕ × ℕ
+with_syllable made =
+    let front = with_letter (codes "aeiou") (with_letter (codes "bdfgklmnprst") made) in
+    let d = drawn 4 front.1 in
+    if d.0 == 0 then with_letter (codes "nrs") (front.0, d.1) else (front.0, d.1)
 
--- a syllable: a consonant, a vowel, and its end
-unfoldable pub syllable : ℕ → MadeText
-syllable x = let c = next_state x in let v = next_state c in let end = ending (next_state v) in
-    let front = slice_index (codes "aeiou") (draw 5 v) ∷ end.text in
-    record { text = slice_index (codes "bdfgklmnprst") (draw 12 c) ∷ front; state = end.state }
+-- with a line more, of one word: it has 2 to 4 syllables, with a hyphen between two
+unfoldable pub with_word : List ℕ × ℕ → List ℕ × ℕ
+with_word made = let d = drawn 3 made.1 in
+    let word = fold (λ front i. with_syllable (front.0 ++ codes "-", front.1))
+    (with_syllable (made.0, d.1)) (range_with_len 0 (d.0 + 1)) in (word.0 ++ codes "\n", word.1)
 
--- so many further syllables, each behind a hyphen
-abbrev pub further_syllables : ℕ → ℕ → MadeText
-further_syllables zero x = record { text = []; state = x }
-further_syllables (suc n) x = let one = syllable x in let more = further_syllables n one.state in
-    record { text = 45 ∷ (one.text ++ more.text); state = more.state }
-
--- a word of 2 to 4 syllables
-unfoldable pub word : ℕ → MadeText
-word x = let size = next_state x in let first = syllable size in
-    let more = further_syllables (draw 3 size + 1) first.state in
-    record { text = first.text ++ more.text; state = more.state }
-
--- so many words, one after the other
-abbrev pub words_made : ℕ → ℕ → List (List ℕ)
-words_made zero x = []
-words_made (suc n) x = (word x).text ∷ words_made n (word x).state
-
--- the dictionary: so many words from the seed, each with its line's end
+-- the dictionary: so many words from the seed
 abbrev pub sample_text : ℕ → ℕ → List ℕ
-sample_text seed count = flat_map (λ text. text ++ 10 ∷ []) (words_made count seed)
+sample_text seed count = (fold (λ made i. with_word made) ([], seed) (range_with_len 0 count)).0
 
 -- the two levels of the file: the first with lengths 1 to 3, the second with lengths 2 to 4
 abbrev pub sample_parameters : Parameters
-sample_parameters = parameters_of (items (codes "1 2  1 3 1 2 20  2 4 2 1 8"))
+sample_parameters = let a : LevelParams =
+    record { pat_start = 1; pat_finish = 3; good_wt = 1; bad_wt = 2; thresh = 20 } in
+    let b : LevelParams =
+    record { pat_start = 2; pat_finish = 4; good_wt = 2; bad_wt = 1; thresh = 8 } in
+    record { start = 1; finish = 2; levels = a ∷ b ∷ [] }
 
 -- the selection: the default table, no starting patterns, and these words
 abbrev pub sample_inputs : List Word → Inputs
 sample_inputs ws =
     record { table = default_alphabet; params = sample_parameters; start = []; dictionary = ws }
 
--- whether a line of the report is printed: that of a level, of the totals or of the rates
-abbrev pub is_printed : List ℕ → Bool
-is_printed line = starts_with nat_eq line (codes "level")
-    || starts_with nat_eq line (codes "total") || starts_with nat_eq line (codes "rate")
-
--- what `sample` prints of its selection: those lines of the report, and the `done:` line
+-- what `sample` prints of its selection: the lines of the report for levels, totals and rates, and
+-- the `done:` line
 abbrev pub sample_lines : Inputs → List ℕ
-sample_lines i = flat_map (λ line. line ++ 10 ∷ []) (filter is_printed (lines (selected_report i)))
-    ++ done_line (selected_text i) (selected_totals i)
+sample_lines i = flat_map (λ line. line ++ codes "\n") (filter (λ line. list_any
+    (starts_with nat_eq line) (codes "level" ∷ codes "total" ∷ codes "rate" ∷ []))
+    (lines (selected_file i given.Report))) ++ done_line i
 
 -- the plan of `sample`: the dictionary that is made is read by its rules, and no file is
 abbrev pub sampled : (seed count : ℕ) → Plan
@@ -84,4 +71,4 @@ sampled seed count = unless_refused Dictionary (words default_alphabet (sample_t
 abbrev pub sample : List (List ℕ) → Option Plan
 sample (seed ∷ count ∷ []) = option_and_then (λ s. option_map (λ c. sampled s c)
     (number_within SAMPLE_DIGITS 0 COUNT_MAX count)) (number_within SAMPLE_DIGITS 0 SEED_MAX seed)
-sample words = None
+sample arguments = None

@@ -7,7 +7,7 @@ use Rattle.pg_translate.specs.Tables.{table}
 use Rattle.pg_dict.specs.DictionaryWords.{words}
 use Rattle.pg_patterns.specs.Starts.{start}
 use Rattle.pg_sweep.specs.Files.{sweep_file}
-use Rattle.pg_sweep.specs.Sweeps.{set_row, costs_of}
+use Rattle.pg_sweep.specs.Sweeps.{set_row}
 use Rattle.pg_sweep.specs.Winners.{winner_of}
 use Rattle.pg_sweep.specs.declared.rows.SweepRow.{SweepRow}
 use Rattle.pg_plans.specs.Plans.{Plan, Ending}
@@ -31,16 +31,15 @@ winner_line winner cost = codes "winner: set " ++ decimal winner
 
 -- the end of `sweep` with these rows: its file, and which set wins
 abbrev pub rows_ended : List ℕ → ℕ → List SweepRow → Plan
-rows_ended output folds rows = let winner = winner_of (costs_of rows) in
-    Ending Done ((output, sweep_file folds rows winner) ∷ [])
-    (winner_line winner (slice_index (costs_of rows) (winner - 1)))
+rows_ended output folds rows = let costs = map (λ (r : SweepRow). r.cost) rows in
+    let winner = winner_of costs in Ending Done ((output, sweep_file folds rows winner) ∷ [])
+    (winner_line winner (slice_index costs (winner - 1)))
 
 -- the plan of `sweep`
 abbrev pub swept : (d p o t : List ℕ) → (folds bad missed : ℕ) → List (List ℕ) → Plan
 swept d p o t folds bad missed params = input Translate t table (λ T. sets_from 1 params (λ As.
-    input Patterns p (start T) (λ S. input Dictionary d (words T) (λ W.
-    rows_ended o folds (map (set_row
-    (record { table = T; words = W; start = S; folds = folds }) bad missed) As)))))
+    input Patterns p (start T) (λ S. input Dictionary d (words T) (λ W. rows_ended o folds (map
+    (set_row (record { table = T; words = W; start = S; folds = folds }) bad missed) As)))))
 
 -- `sweep DICT PATTERNS OUT TRANSLATE K BAD MISSED`, then the names of 1 to 16 parameter files
 abbrev pub sweep : List (List ℕ) → Option Plan
@@ -50,4 +49,4 @@ sweep (d ∷ p ∷ o ∷ t ∷ k ∷ bad ∷ missed ∷ params) = option_and_the
     then where_accepted (d ∷ p ∷ t ∷ params) (o ∷ []) (swept d p o t folds bad missed params)
     else None) (number_within PRICE_DIGITS 1 PRICE_MAX missed))
     (number_within PRICE_DIGITS 1 PRICE_MAX bad)) (number_within FOLDS_DIGITS FOLDS_MIN FOLDS_MAX k)
-sweep words = None
+sweep arguments = None

@@ -5,28 +5,25 @@ use Rattle.std.specs.FinMap as fin
 use Rattle.pg_types.specs.Parameters.{Parameters, parameters}
 use Rattle.pg_types.specs.declared.limits.TheConstants.{FOLDS_MAX, FOLDS_MIN, PRICE_MAX}
 use Rattle.pg_types.specs.declared.refusals.Refusal.{Refusal}
-use Rattle.pg_audit.specs.Differences.{Difference, first_false}
+use Rattle.pg_audit.specs.Differences.{first_false}
 use Rattle.pg_dict.specs.DictionaryWords.{words}
 use Rattle.pg_dict.specs.Word.{Word}
-use Rattle.pg_outside.specs.Content.{FileMap}
-use Rattle.pg_outside.specs.Faults.{Rose}
+use Rattle.pg_outside.specs.Content.{FileMap, Told}
 use Rattle.pg_patterns.specs.Starts.{start}
 use Rattle.pg_patterns.specs.Texts.{pattern_text}
 use Rattle.pg_patterns.specs.Values.{Patterns}
 use Rattle.pg_prune.specs.Promises.{BreakAlike, NoneCanGo}
 use Rattle.pg_prune.specs.Prunes.{Pruning, pruning_of}
 use Rattle.pg_prune.specs.Reports.{prune_report}
-use Rattle.pg_select.specs.CountedPositions.{Minima, minima_of}
 use Rattle.pg_sweep.specs.Files.{sweep_file}
-use Rattle.pg_sweep.specs.Sweeps.{Terms, set_row, costs_of}
-use Rattle.pg_sweep.specs.Promises.{IsWinner}
+use Rattle.pg_sweep.specs.Sweeps.{Terms, set_row}
+use Rattle.pg_sweep.specs.Promises.{costs_of, IsWinner}
 use Rattle.pg_sweep.specs.declared.rows.SweepRow.{SweepRow}
 use Rattle.pg_table.specs.Lookups.{table_totals}
 use Rattle.pg_table.specs.Texts.{table_text}
 use Rattle.pg_texts.specs.ReportTexts.{ending_text}
 use Rattle.pg_translate.specs.Alphabets.{Alphabet, letters_of}
 use Rattle.pg_translate.specs.Tables.{default_alphabet, table}
-use Rattle.pg_plans.specs.Calls.{Told}
 use Rattle.pg_plans.specs.Laws.{KeepsFiles, HasCause}
 use Rattle.pg_plans.specs.Plans.{Moment, Says}
 use Rattle.pg_plans.specs.declared.answers.Status.{Status}
@@ -94,19 +91,20 @@ pub record DeniesFirst (old new : Moment) (files : FileMap) (i : Inputs)
   pub right : AreTheirTexts files i front
   pub bytes : List ℕ
   pub held : fin.get files first.1 ≡ Some bytes
-  pub difference : Difference
+  pub difference : ℕ × List ℕ
   pub differs : first_false bytes (selected_file i first.0) ≡ Some difference
   pub named : PutsLines old new (no_line first.0 difference)
 
--- audit_exact: with no fault and no want of memory, Yes exactly where each given file is its text;
--- No names the first that is not
+-- audit_exact: with no fault and no want of memory, Yes exactly where the inputs are accepted and
+-- each given file is its text; No names the first that is not
 abbrev pub AuditExact : Type 0
 AuditExact = (d p o t a r : List ℕ) (options : List (List ℕ)) (status : Status) (old new : Moment)
     → IsRun (codes "audit" ∷ d ∷ p ∷ o ∷ t ∷ a ∷ r ∷ options) status old new
     → ¬ (status ≡ Usage) → ¬ (status ≡ Fault) → ¬ (status ≡ Memory)
     → Told old.0.held new.0.held (λ before after. (asked : List (Given × List ℕ))
-    × (files_asked options ≡ Some asked) × ((i : Inputs) → HasInputs before d p t a i
-    → ((status ≡ Yes) ⊎ (status ≡ No))
+    × (files_asked options ≡ Some asked)
+    × (status ≡ Yes → (i : Inputs) × HasInputs before d p t a i)
+    × ((i : Inputs) → HasInputs before d p t a i → ((status ≡ Yes) ⊎ (status ≡ No))
     × ((status ≡ Yes) ↔ AreTheirTexts before i (files_of o asked r))
     × (status ≡ No → DeniesFirst old new before i (files_of o asked r))))
 
@@ -135,9 +133,8 @@ pub record OnlyThese (arguments : List (List ℕ)) (status : Status) (old new : 
   pub caused : status ≡ Fault → HasCause old new
   -- files change only after Done or a fault
   pub kept : ¬ (status ≡ Done) → ¬ (status ≡ Fault) → KeepsFiles old.0 new.0
-  -- where the line says that a file could not be read, and the sink has no fault, none changed
-  pub unread : status ≡ Fault → ¬ Rose old.1.faults new.1.faults → (name text : List ℕ)
-      → old.1.text ≡ Some text
+  -- where the line says that a file could not be read, no file changed
+  pub unread : status ≡ Fault → (name text : List ℕ) → old.1.text ≡ Some text
       → new.1.text ≡ Some (text ++ codes "fault: reading " ++ name ++ codes "\n")
       → KeepsFiles old.0 new.0
   -- Usage comes exactly where the arguments are no command, unless its line cannot be put. No file
@@ -153,7 +150,7 @@ EachAnswer = (arguments : List (List ℕ)) (status : Status) (old new : Moment)
     → IsRun arguments status old new → OnlyThese arguments status old new
 
 -- entries of a map that give each word the same breaks, and none of which can go alone
-pub record BreaksLeast (m : Minima) (W : List Word) (P kept : Patterns) : Type 0 where
+pub record BreaksLeast (m : Alphabet) (W : List Word) (P kept : Patterns) : Type 0 where
   pub part : All (Contains P) kept
   pub alike : BreakAlike m W P kept
   pub least : NoneCanGo m W P kept
@@ -174,8 +171,8 @@ PruneExact = (d p o t r : List ℕ) (old new : Moment)
     → Told old.0.held new.0.held (λ before after. (T : Alphabet) × (P : Patterns)
     × (W : List Word) × Means table before t T × Means (start T) before p P
     × Means (words T) before d W
-    × BreaksLeast (minima_of T) W P (pruning_of (minima_of T) W P).patterns
-    × WritesPruned old new before after o r T (pruning_of (minima_of T) W P))
+    × BreaksLeast T W P (pruning_of T W P).patterns
+    × WritesPruned old new before after o r T (pruning_of T W P))
 
 -- parameter files mean these sets, in their order
 abbrev pub AreSets : FileMap → List (List ℕ) → List Parameters → Type 0
@@ -223,7 +220,7 @@ TotalsExact = (d t b : List ℕ) (old new : Moment)
     → Told old.0.held new.0.held (λ before after. (T : Alphabet) × (W : List Word)
     × (B : List ℕ) × Means table before t T × Means (words T) before d W
     × Means (packed_table T) before b B × (after ≡ before)
-    × PutsLines old new (ending_text (table_totals (minima_of T) W B)))
+    × PutsLines old new (ending_text (table_totals T W B)))
 
 -- pack_exact: after Done `pack` wrote the packed table of the patterns, and put its line
 abbrev pub PackExact : Type 0

@@ -7,7 +7,6 @@ use Rattle.pg_types.specs.declared.refusals.Refusal.{Refusal}
 use Rattle.pg_translate.specs.Alphabets.{Alphabet, letters_of}
 use Rattle.pg_translate.specs.Tables.{table}
 use Rattle.pg_dict.specs.DictionaryWords.{words}
-use Rattle.pg_select.specs.CountedPositions.{minima_of}
 use Rattle.pg_table.specs.Forms.{sizes_of, is_well_formed}
 use Rattle.pg_table.specs.Lookups.{table_totals}
 use Rattle.pg_texts.specs.ReportTexts.{ending_text}
@@ -24,13 +23,9 @@ packed_table t b = if nat_lt TABLE_MAX (length b) then Err (refusal_at 0 TableTo
     else (if nat_eq (sizes_of b).signs (letters_of t + 1) then Ok b
     else Err (refusal_at 0 OtherTable 0)))
 
--- the plan of `totals`, which writes no file
-abbrev pub totalled : (d t b : List ℕ) → Plan
-totalled d t b = input Translate t table (λ T. input Dictionary d (words T) (λ W.
-    input Table b (packed_table T) (λ B.
-    Ending Done [] (ending_text (table_totals (minima_of T) W B)))))
-
--- `totals DICT TRANSLATE TABLE`, where names may be equal
+-- `totals DICT TRANSLATE TABLE`, where names may be equal. It writes no file
 abbrev pub totals : List (List ℕ) → Option Plan
-totals (d ∷ t ∷ b ∷ []) = where_accepted (d ∷ t ∷ b ∷ []) [] (totalled d t b)
-totals words = None
+totals (d ∷ t ∷ b ∷ []) = where_accepted (d ∷ t ∷ b ∷ []) [] (input Translate t table (λ T.
+    input Dictionary d (words T) (λ W. input Table b (packed_table T) (λ B.
+    Ending Done [] (ending_text (table_totals T W B))))))
+totals arguments = None

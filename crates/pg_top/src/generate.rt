@@ -1,6 +1,6 @@
 //! `generate`: the patterns that a selection finds, and what is told of them.
 ghost use Rattle.std.specs.Prelude.{IfOk};
-ghost use Rattle.pg_plans.specs.Calls.{Told};
+ghost use Rattle.pg_outside.specs.Content.{Told};
 ghost use Rattle.pg_words.specs.Inside.CommandRequests.{texts_of};
 ghost use Rattle.pg_steps.specs.Inside.Steps.{Begins};
 ghost use Rattle.pg_steps.specs.Inside.Texts.{ending_of};

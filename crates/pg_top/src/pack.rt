@@ -1,9 +1,9 @@
 //! `pack`: patterns as a packed table.
 ghost use Rattle.std.specs.Prelude.{IfOk};
-ghost use Rattle.pg_plans.specs.Calls.{Told};
+ghost use Rattle.pg_outside.specs.Content.{Told};
 ghost use Rattle.pg_steps.specs.Inside.Steps.{Begins};
 ghost use Rattle.pg_steps.specs.Inside.Texts.{ending_of};
-ghost use Rattle.pg_top.specs.Packing.{packed};
+ghost use Rattle.pg_top.specs.Inside.Plans.{plan_of_pack};
 ghost use Rattle.pg_top.specs.Promises.{PackPromise};
 
 mod outputs;
@@ -23,7 +23,7 @@ pub fn pack_files<'a, F: Files, W: Watch>(
     watch: &W,
 ) -> Result<BuiltTexts<'a>, Stop<'a>>
     ensures begins { Begins
-        (packed names.now.patterns.now names.now.translate.now names.now.table.now)
+        (plan_of_pack names.now.patterns.now names.now.translate.now names.now.table.now)
         result ending_of (F.shown files.old) (F.shown files.new) }
     ensures promised { IfOk result (λ _. Told (F.shown files.old).held (F.shown files.new).held
         (λ before after. PackPromise before names.now.patterns.now names.now.translate.now)) }

@@ -1,10 +1,10 @@
 //! `prune`: the patterns that a dictionary needs.
 ghost use Rattle.std.specs.Prelude.{IfOk};
-ghost use Rattle.pg_plans.specs.Calls.{Told};
+ghost use Rattle.pg_outside.specs.Content.{Told};
 ghost use Rattle.pg_steps.specs.Inside.Steps.{Begins};
 ghost use Rattle.pg_steps.specs.Inside.Texts.{ending_of};
 ghost use Rattle.pg_top.specs.Promises.{PrunePromise};
-ghost use Rattle.pg_top.specs.Pruning.{pruned};
+ghost use Rattle.pg_top.specs.Inside.Plans.{plan_of_prune};
 
 mod outputs;
 
@@ -22,8 +22,8 @@ pub fn prune_files<'a, F: Files, W: Watch>(
     files: &mut F,
     watch: &W,
 ) -> Result<BuiltTexts<'a>, Stop<'a>>
-    ensures begins { Begins (pruned names.now.dict.now names.now.patterns.now names.now.output.now
-        names.now.translate.now names.now.report.now) result ending_of
+    ensures begins { Begins (plan_of_prune names.now.dict.now names.now.patterns.now
+        names.now.output.now names.now.translate.now names.now.report.now) result ending_of
         (F.shown files.old) (F.shown files.new) }
     ensures promised { IfOk result (λ _. Told (F.shown files.old).held (F.shown files.new).held
         (λ before after. PrunePromise before

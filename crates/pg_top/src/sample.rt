@@ -7,8 +7,8 @@ ghost use Rattle.pg_translate.specs.Tables.{default_alphabet};
 ghost use Rattle.pg_dict.specs.Inside.SoundWords.{SignsAtMost};
 ghost use Rattle.pg_outside.specs.Content.{FilesShown};
 ghost use Rattle.pg_plans.specs.Plans.{Ending, Follows};
-ghost use Rattle.pg_top.specs.Sampling.{is_printed as is_printed_line, sample_inputs, sample_lines as lines_of, sample_parameters, sample_text as made_text, sampled};
-ghost use Rattle.pg_top.specs.Inside.Sampled.{printed_part, IsSample};
+ghost use Rattle.pg_top.specs.Sampling.{sample_inputs, sample_lines as lines_of, sample_text as made_text, sampled};
+ghost use Rattle.pg_top.specs.Inside.Sampled.{is_printed as is_printed_line, printed_part, IsSample};
 ghost use Rattle.pg_top.specs.Inside.selection.SelectionSigns.{HasSigns};
 ghost use Rattle.pg_top.specs.Inside.selection.SelectedRuns.{IsNew, TellsSelection};
 
@@ -45,7 +45,7 @@ fn only_memory(error: ReadingError) -> AllocError
 
 /// The parameters of the selection.
 fn sample_params(alloc: Global) -> Result<Params, AllocError>
-    ensures { IfOk result (λ params. params ≡ sample_parameters) }
+    ensures { IfOk result (λ params. params ≡ (sample_inputs []).params) }
 {
     match read_params(alloc, PARAMETERS) {
         Ok(params) => Ok(params),

@@ -11,7 +11,8 @@ ghost use Rattle.pg_top.specs.Inside.selection.SelectionSigns.{HasSigns};
 ghost use Rattle.pg_top.specs.Inside.selection.SelectedRuns.{IsNew, TellsSelection, HasSelected};
 ghost use Rattle.pg_driver.specs.Inside.records.RunAccounts.{TellsCells};
 ghost use Rattle.pg_top.specs.Inside.selection.Runs.{last_layout_told};
-ghost use Rattle.pg_top.specs.Selection.{selected_text, selected_list, selected_patterns, selected_report};
+ghost use Rattle.pg_steps.specs.declared.inputs.Given.TheVariants as given;
+ghost use Rattle.pg_top.specs.Selection.{selected_file, selected_patterns};
 
 use pg_dict::Dictionary;
 use pg_driver::{Run, generate};
@@ -69,7 +70,7 @@ pub fn last_layout(run: &Run) -> Option<Layout>
 /// The pattern file of the inputs, by their run.
 pub fn pattern_file(alloc: Global, inputs: &Inputs, run: &Run) -> Result<Vec<u8>, AllocError>
     requires { TellsSelection inputs.now run.now }
-    ensures text { IfOk result (λ text. text.items ≡ selected_text inputs.now) }
+    ensures text { IfOk result (λ text. text.items ≡ selected_file inputs.now given.Patterns) }
     ensures reads_back { IfOk result
         (λ _. ReadsBackPatterns inputs.now.table (selected_patterns inputs.now)) }
 {
@@ -84,7 +85,7 @@ pub fn list_file<E: Engine>(
 ) -> Result<Vec<u8>, AllocError>
     requires signs { HasSigns inputs.now }
     requires engine { HasSelected inputs.now (E.meaning engine.now) }
-    ensures { IfOk result (λ text. text.items ≡ selected_list inputs.now) }
+    ensures { IfOk result (λ text. text.items ≡ selected_file inputs.now given.Pattmp) }
 {
     pattmp_text(alloc, engine, &inputs.dictionary, &inputs.table)
 }
@@ -92,8 +93,8 @@ pub fn list_file<E: Engine>(
 /// The hyphenated list of the inputs is read as the words that take part. A call does nothing.
 pub fn list_reads_back(inputs: &Inputs)
     requires { HasSigns inputs.now }
-    ensures { length (selected_list inputs.now) ≤ FILE_MAX
-        → words inputs.now.table (selected_list inputs.now)
+    ensures { length (selected_file inputs.now given.Pattmp) ≤ FILE_MAX
+        → words inputs.now.table (selected_file inputs.now given.Pattmp)
         ≡ Ok (filter (is_taking_part inputs.now.table) inputs.now.dictionary) }
 {
     lists_are_read(&inputs.table);
@@ -103,7 +104,7 @@ pub fn list_reads_back(inputs: &Inputs)
 /// The report of the inputs, by their run.
 pub fn report_file(alloc: Global, inputs: &Inputs, run: &Run) -> Result<Vec<u8>, AllocError>
     requires { TellsSelection inputs.now run.now }
-    ensures { IfOk result (λ text. text.items ≡ selected_report inputs.now) }
+    ensures { IfOk result (λ text. text.items ≡ selected_file inputs.now given.Report) }
 {
     report_text(alloc, inputs.start.largest(), &inputs.params, run)
 }

@@ -1,7 +1,7 @@
 //! `totals`: the totals of a dictionary by a packed table.
 ghost use Rattle.pg_steps.specs.Inside.Steps.{Begins};
 ghost use Rattle.pg_steps.specs.Inside.Texts.{ending_of};
-ghost use Rattle.pg_top.specs.Totalling.{totalled};
+ghost use Rattle.pg_top.specs.Inside.Plans.{plan_of_totals};
 
 mod table;
 
@@ -19,7 +19,7 @@ pub fn total_files<'a, F: Files, W: Watch>(
     files: &mut F,
     watch: &W,
 ) -> Result<BuiltTexts<'a>, Stop<'a>>
-    ensures { Begins (totalled names.now.dict.now names.now.translate.now names.now.table.now)
+    ensures { Begins (plan_of_totals names.now.dict.now names.now.translate.now names.now.table.now)
         result ending_of (F.shown files.old) (F.shown files.new) }
 {
     let letters = read_table(alloc, names.translate, files, watch)?;

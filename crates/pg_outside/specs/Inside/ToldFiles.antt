@@ -1,11 +1,28 @@
--- What a call reads and writes, where files are told, and what every read and write leaves.
+-- What a call reads, writes and puts, where it is told, and what every read and write leaves.
 use Rattle.std.specs.Prelude.{◌≡◌, ℕ, ◌+◌, ◌<◌, ◌≤◌, List, [], ◌∷◌, ◌++◌, take, length, Option, Some, MatchOption, IfSome, Result, OnOk, OnErr, IsErrOf}
 use Rattle.std.specs.FinMap as map
-use Rattle.pg_outside.specs.Content.{FileMap, FilesShown, file_at, HasPart, KeepsHeld}
+use Rattle.pg_outside.specs.Content.{FileMap, FilesShown, Told, HasPart}
 use Rattle.pg_outside.specs.FilesCalls.{Reads, Writes}
 use Rattle.pg_outside.specs.Inside.NameFaults.{RoseFor, NoneFell}
 use Rattle.pg_outside.specs.declared.outside.ReadError.{ReadError}
 use Rattle.pg_outside.specs.declared.outside.ReadError.TheVariants as error
+
+-- the file of this name, if there is one
+abbrev pub file_at : FileMap → List ℕ → Option (List ℕ)
+file_at files name = map.get files name
+
+-- files that are told after the call were told before it, and are the same
+abbrev pub KeepsHeld : Option FileMap → Option FileMap → Type 0
+KeepsHeld old new = IfSome new (λ files. old ≡ Some files)
+
+-- where the sink's bytes are told after the call, they are those told before it and then this text
+abbrev pub WasPut : Option (List ℕ) → Option (List ℕ) → List ℕ → Type 0
+WasPut old new text = Told old new (λ before after. after ≡ before ++ text)
+
+-- where the sink's bytes are told, they are those told before and then a prefix of this text
+abbrev pub WasPartPut : Option (List ℕ) → Option (List ℕ) → List ℕ → Type 0
+WasPartPut old new text =
+    Told old new (λ before after. (kept : ℕ) × (after ≡ before ++ take kept text))
 
 -- the file has more bytes than the limit, and these are its first limit + 1 bytes
 abbrev pub IsTooLong : Option (List ℕ) → ℕ → List ℕ → Type 0
@@ -22,13 +39,11 @@ IsFileCut held name limit front = IfSome held (λ files. IsTooLong (file_at file
 
 -- where files are told after the call, they are those told before with these bytes in this file
 abbrev pub WasWritten : Option FileMap → Option FileMap → List ℕ → List ℕ → Type 0
-WasWritten old new name bytes = IfSome new (λ after. MatchOption old ⊥ (λ before.
-    after ≡ map.insert before name bytes))
+WasWritten old new name bytes = Told old new (λ before after. after ≡ map.insert before name bytes)
 
 -- where files are told, this one is as it was or a prefix of these bytes, and no other changed
 abbrev pub WasPartWritten : Option FileMap → Option FileMap → List ℕ → List ℕ → Type 0
-WasPartWritten old new name bytes = IfSome new (λ after. MatchOption old ⊥ (λ before.
-    HasPart before after name bytes))
+WasPartWritten old new name bytes = Told old new (λ before after. HasPart before after name bytes)
 
 -- what a read of at most so many bytes gives, and what it leaves of what files show
 pub record IsReadOf {T : Type 0} (result : Result T ReadError) (name : List ℕ) (limit : ℕ)

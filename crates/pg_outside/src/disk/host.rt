@@ -1,7 +1,8 @@
 //! The adapter over real files: each call is one call of the operating system, and it decides
 //! nothing. To look at a link is two calls, since the second tells the links of the system by their
 //! device.
-ghost use Rattle.std.specs.Prelude.{◌≡◌, ◌≤◌, None, Ok, IfOk, OnOk, OnErr};
+ghost use Rattle.std.specs.Prelude.{◌≡◌, ◌≢◌, ◌≤◌, None, Some, Ok, IsErr, IfOk, IfErr, OnOk, OnErr};
+ghost use Rattle.std.specs.IoError.{error_kind};
 ghost use Rattle.pg_outside.specs.Faults.{Rose, next_count};
 
 use super::files::DiskFiles;
@@ -122,6 +123,8 @@ fn count_and_keep<T>(
     ensures later { failures.old ≤ failures.new }
     ensures ok_failures { OnOk result (failures.new ≡ failures.old) }
     ensures failed { OnErr result (Rose failures.old failures.new) }
+    ensures reason { IfErr outcome (λ error. reason.new ≡ Some error) }
+    ensures ok_reason { OnOk result (reason.new ≡ reason.old) }
 {
     match outcome {
         Ok(value) => Ok(value),
@@ -141,9 +144,14 @@ fn count_unless_none<T>(
     outcome: io::Result<T>,
     none: ErrorKind,
 ) -> Result<Option<T>, CallFailed>
+    ensures same { IfOk outcome (λ value. result ≡ Ok (Some value)) }
+    ensures missing { IfErr outcome (λ error. (error_kind error ≡ none) → (result ≡ Ok None)) }
+    ensures failing { IfErr outcome (λ error. (error_kind error ≢ none) → IsErr result) }
     ensures later { failures.old ≤ failures.new }
     ensures ok_failures { OnOk result (failures.new ≡ failures.old) }
     ensures failed { OnErr result (Rose failures.old failures.new) }
+    ensures reason { OnErr result (IfErr outcome (λ error. reason.new ≡ Some error)) }
+    ensures ok_reason { OnOk result (reason.new ≡ reason.old) }
 {
     match outcome {
         Ok(value) => Ok(Some(value)),

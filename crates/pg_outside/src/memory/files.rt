@@ -2,10 +2,10 @@
 ghost use Rattle.std.specs.Prelude.{◌≡◌, ℕ, ◌+◌, ◌-◌, ◌^◌, ◌<◌, ◌≤◌, ◌⊎◌, List, [], take, length, min, Option, Some, None, OnOk, OnErr, IsOk, IsErr, IsSome, IfNone, OnSome, IsErrOf};
 ghost use Rattle.std.specs.Option.{option_copied, option_map};
 ghost use Rattle.std.specs.FinMap as fin;
-ghost use Rattle.pg_outside.specs.Content.{file_at, HasPart};
+ghost use Rattle.pg_outside.specs.Content.{HasPart};
+ghost use Rattle.pg_outside.specs.Inside.ToldFiles.{file_at, IsTooLong, IsReadOf, IsWriteOf};
 ghost use Rattle.pg_outside.specs.Inside.memory.MissingNames.{times_in};
 ghost use Rattle.pg_outside.specs.Inside.memory.StoredFile.{file_map, room_in};
-ghost use Rattle.pg_outside.specs.Inside.ToldFiles.{IsTooLong, IsReadOf, IsWriteOf};
 ghost use Rattle.pg_outside.specs.Faults.{next_count};
 ghost use Rattle.pg_outside.specs.Inside.NameFaults.{RoseByOneAtMost, NoneFell, SameCounts, SameOthers};
 

@@ -1,7 +1,7 @@
 //! A sink in memory that can fail at a chosen call.
 ghost use Rattle.std.specs.Prelude.{◌≡◌, ℕ, ◌+◌, ◌<◌, ◌≤◌, List, [], ◌++◌, take, length, Option, Some, None, OnOk, OnErr, IfOk, IsOk, IsErr, IsSome, vec_len, vec_capacity};
 ghost use Rattle.std.specs.FinMap as fin;
-ghost use Rattle.pg_outside.specs.Content.{WasPut, WasPartPut};
+ghost use Rattle.pg_outside.specs.Inside.ToldFiles.{WasPut, WasPartPut};
 ghost use Rattle.pg_outside.specs.Faults.{next_count, Rose};
 
 use super::bounded_bytes::BoundedBytes;

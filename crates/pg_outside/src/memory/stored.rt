@@ -2,8 +2,7 @@
 ghost use Rattle.std.specs.Prelude.{◌≡◌, ◌≢◌, ℕ, ◌+◌, ◌-◌, ◌^◌, ◌<◌, ◌≤◌, [], ◌++◌, take, length, max, Option, Some, None, OnOk, OnErr, IsOk, IsSome, IfOk, IfSome, IfNone, IsErrOf, vec_len, vec_capacity, string_bytes, position};
 ghost use Rattle.std.specs.Option.{option_copied};
 ghost use Rattle.std.specs.FinMap as fin;
-ghost use Rattle.pg_outside.specs.Content.{file_at};
-ghost use Rattle.pg_outside.specs.Inside.ToldFiles.{IsTooLong};
+ghost use Rattle.pg_outside.specs.Inside.ToldFiles.{file_at, IsTooLong};
 ghost use Rattle.pg_outside.specs.Inside.NameFaults.{NoneFell, SameCounts};
 ghost use Rattle.pg_outside.specs.Inside.memory.StoredFile.{has_name, file_map, room_in, IsIndexOf, IsMissing};
 

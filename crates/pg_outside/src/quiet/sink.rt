@@ -1,7 +1,7 @@
 //! A sink in memory that never fails.
 ghost use Rattle.std.specs.Prelude.{◌≡◌, ◌≤◌, [], Some, None, OnOk, OnErr, IfOk, IsOk, Option};
 ghost use Rattle.std.specs.Option.{option_copied};
-ghost use Rattle.pg_outside.specs.Content.{WasPut, WasPartPut};
+ghost use Rattle.pg_outside.specs.Inside.ToldFiles.{WasPut, WasPartPut};
 ghost use Rattle.pg_outside.specs.Faults.{Rose, next_count};
 
 use crate::memory::bounded_bytes::BoundedBytes;

@@ -4,7 +4,7 @@ use Rattle.std.specs.Option.{option_map, option_map_or}
 use Rattle.std.specs.Prelude.{codes, decimal}
 use Rattle.std.proofs.lemmas.Bool.{ltb-true, ltb-false}
 use Rattle.std.proofs.lemmas.List.{take_all}
-use Rattle.pg_audit.specs.Differences.{Difference, first_false}
+use Rattle.pg_audit.specs.Differences.{first_false}
 use Rattle.pg_audit.specs.Inside.FirstFalse.{printed_of}
 use Rattle.pg_audit.proofs.PrintedPart.{part_printed}
 use Rattle.pg_outside.specs.Content.{FilesShown, SinkShown}
@@ -15,7 +15,7 @@ use Rattle.pg_plans.specs.declared.answers.Status.TheVariants.{No}
 use Rattle.pg_steps.specs.RefusedLines.{label_of}
 use Rattle.pg_steps.specs.declared.inputs.Given.{Given}
 use Rattle.pg_steps.specs.declared.inputs.Input.TheVariants as input
-use Rattle.pg_top.specs.Auditing.{compared}
+use Rattle.pg_top.specs.Auditing.{comparison}
 use Rattle.pg_top.specs.Selection.{selected_file}
 use Rattle.pg_top.specs.Inside.Comparing.{comparing, comparing_one, judged}
 use Rattle.pg_top.specs.Inside.selection.SelectedFiles.{made_file, made_files}
@@ -26,7 +26,7 @@ use Rattle.pg_top.specs.declared.selection.Inputs.{Inputs}
 said : Given → ℕ × List ℕ → List ℕ
 said g p = codes "no: " ++ label_of (input.Given g) ++ codes " line " ++ decimal p.0 ++ p.1 ++ codes "\n"
 
-by_printed : (g : Given) (d : Option Difference) (rest : Plan) → judged g d rest ≡ option_map_or (λ p. Ending No [] (said g p)) (option_map printed_of d) rest
+by_printed : (g : Given) (d : Option (ℕ × List ℕ)) (rest : Plan) → judged g d rest ≡ option_map_or (λ p. Ending No [] (said g p)) (option_map printed_of d) rest
 unfolding said
 by_printed g None rest = refl
 by_printed g (Some d) rest = refl
@@ -60,6 +60,6 @@ files_first [] behind w some is rest = absurd (omega arith)
 files_first (v ∷ vs) behind w some is rest = λ k. comparing_one (made_file (sym is k)) (comparing (made_files (sym rest k)))
 
 -- comparing given files is comparing them with their texts
-pub compared-is : (i : Inputs) (gs : List (Given × List ℕ)) → compared i gs ≡ comparing (map (λ g. (g.0, g.1, selected_file i g.0)) gs)
+pub compared-is : (i : Inputs) (gs : List (Given × List ℕ)) → comparison i gs ≡ comparing (map (λ g. (g.0, g.1, selected_file i g.0)) gs)
 compared-is i [] = refl
 compared-is i (g ∷ gs) = λ k. Reading g.1 (λ bytes. judged g.0 (first_false bytes (selected_file i g.0)) (compared-is i gs k))

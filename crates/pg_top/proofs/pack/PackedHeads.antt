@@ -1,8 +1,9 @@
 -- The bytes that `pack` writes are accepted by `totals`.
-use Rattle.std.proofs.Common.{◌≡◌, ℕ, ◌+◌, ◌≤◌, true, not, List, [], ◌++◌, length, Result, Ok, Err, cond, refl, sym, arith}
-use Rattle.std.specs.List.{flat_map}
+use Rattle.std.proofs.Common.{◌≡◌, ℕ, ◌+◌, ◌≤◌, true, not, List, [], ◌++◌, length, Result, Ok, Err, cond, refl, ◌∙◌, append_assoc, arith}
+use Rattle.std.specs.Prelude.{codes}
 use Rattle.std.proofs.lemmas.Bool.{le-ltb, eq-eqb}
-use Rattle.std.proofs.lemmas.List.{append-nil}
+use Rattle.std.specs.List.{flat_map, range_with_len}
+use Rattle.pg_types.specs.Placement.{Families, top}
 use Rattle.pg_types.specs.declared.limits.TheConstants.{SIGNS_MAX}
 use Rattle.pg_types.specs.declared.refusals.Kind.TheVariants.{TableTooLong, BadTable, OtherTable}
 use Rattle.pg_types.specs.declared.refusals.Refusal.{Refusal}
@@ -10,37 +11,35 @@ use Rattle.pg_types.specs.ValuesOrRefusals.{refusal_at}
 use Rattle.pg_translate.specs.Alphabets.{Alphabet, letters_of}
 use Rattle.pg_types.specs.declared.packed_table.TheConstants.{TABLE_MAX}
 use Rattle.pg_patterns.specs.Values.{Patterns}
-use Rattle.pg_table.specs.Forms.{signature, sizes_of, is_well_formed}
-use Rattle.pg_table.specs.Numbers.{u32_at, u32_bytes}
-use Rattle.pg_table.specs.Texts.{cell_bytes, record_bytes, table_text}
-use Rattle.pg_table.specs.Inside.text.Files.{file_of, table_cells, table_records}
-use Rattle.pg_table.proofs.ByteParts.{HasPart, part_first, part_rest, u32_part}
+use Rattle.pg_table.specs.Forms.{sizes_of, is_well_formed}
+use Rattle.pg_table.specs.Numbers.{bytes_of_number}
+use Rattle.pg_table.specs.Texts.{bytes_of_cell, bytes_of_record, recorded_lists, table_text}
+use Rattle.pg_table.specs.Inside.text.Files.{head_in, table_families}
+use Rattle.pg_table.proofs.ByteParts.{HasPart, part_rest, u32_part}
 use Rattle.pg_top.specs.Inside.Packed.{packed_text}
 use Rattle.pg_top.specs.Totalling.{packed_table}
 
--- the table begins with its mark and the greatest sign
-module _ (n : ℕ) (P : Patterns) where
-  abbrev b : List ℕ
-  b = file_of n (table_cells n P) (table_records P)
+-- the text begins with its mark and the greatest sign
+text_begins : (n : ℕ) (P : Patterns) → HasPart (table_text n P) 0 (codes "PGT1" ++ bytes_of_number 4 n)
+unfolding table_text
+text_begins n P =
+    let fs : Families = table_families n P in
+    let lists : List (List (ℕ × ℕ)) = recorded_lists P in
+    let mark : List ℕ = codes "PGT1" ++ bytes_of_number 4 n in
+    let cells : List ℕ = bytes_of_number 4 (top fs + 1) in
+    let records : List ℕ = bytes_of_number 4 (length lists) in
+    let row : List ℕ = flat_map (bytes_of_cell fs (head_in P)) (range_with_len 0 (top fs + 1)) in
+    let listed : List ℕ = flat_map (bytes_of_record lists) lists in
+    record {
+      before = [];
+      after = cells ++ (records ++ (row ++ listed));
+      whole = append_assoc (mark ++ cells ++ records) row listed ∙ append_assoc (mark ++ cells) records (row ++ listed) ∙ append_assoc mark cells (records ++ (row ++ listed));
+      at = refl;
+    }
 
-  abbrev front : List ℕ
-  front = signature ++ u32_bytes n ++ u32_bytes (length (table_cells n P)) ++ u32_bytes (length (table_records P))
-
-  whole : HasPart b 0 (file_of n (table_cells n P) (table_records P))
-  whole = record { before = []; after = []; whole = sym (append-nil (file_of n (table_cells n P) (table_records P))); at = refl }
-
-  begins : HasPart b 0 (signature ++ u32_bytes n)
-  begins =
-      part_first b 0 (signature ++ u32_bytes n) (u32_bytes (length (table_cells n P)))
-      (part_first b 0 (signature ++ u32_bytes n ++ u32_bytes (length (table_cells n P))) (u32_bytes (length (table_records P)))
-      (part_first b 0 front (flat_map cell_bytes (table_cells n P)) (part_first b 0 (front ++ flat_map cell_bytes (table_cells n P)) (flat_map record_bytes (table_records P)) whole)))
-
-  file_signs : n ≤ SIGNS_MAX → u32_at b 4 ≡ n
-  file_signs few = u32_part b 4 n (part_rest b 0 4 signature (u32_bytes n) begins refl) (omega (arith, few))
-
-  text_signs : n ≤ SIGNS_MAX → (sizes_of (table_text n P)).signs ≡ n
-  unfolding table_text
-  text_signs few = file_signs few
+-- so it tells the greatest sign
+text_signs : (n : ℕ) (P : Patterns) → n ≤ SIGNS_MAX → (sizes_of (table_text n P)).signs ≡ n
+text_signs n P few = u32_part (table_text n P) 4 n (part_rest (table_text n P) 0 4 (codes "PGT1") (bytes_of_number 4 n) (text_begins n P) refl) (omega (arith, few))
 
 -- so it is a packed table for the letters of its table
 pub packed_accepted : (t : Alphabet) (P : Patterns) → letters_of t + 1 ≤ SIGNS_MAX → length (packed_text t P) ≤ TABLE_MAX → is_well_formed (packed_text t P)

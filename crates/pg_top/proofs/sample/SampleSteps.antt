@@ -1,7 +1,7 @@
 -- The loops that make the dictionary of `sample`: what is made so far, with the rest behind it, is the whole.
 use Rattle.std.proofs.Common.{◌≡◌, ℕ, suc, ◌+◌, ◌-◌, ◌<◌, ◌≤◌, List, [], ◌∷◌, ◌++◌, sym, ap, ◌∙◌, append_assoc, arith}
 use Rattle.std.proofs.lemmas.List.{append-nil}
-use Rattle.pg_top.specs.Sampling.{MadeText, syllable, further_syllables, word, sample_text}
+use Rattle.pg_top.specs.Inside.MadeWords.{MadeText, syllable, further_syllables, word, lines_made}
 
 -- a syllable more
 further_next : (count i x : ℕ) → i < count → further_syllables (count - i) x ≡ further_syllables (suc (count - (i + 1))) x
@@ -32,13 +32,13 @@ pub syllables_state : (count i x whole : ℕ) → count ≤ i → (further_sylla
 syllables_state count i x whole past is = ap (λ (m : MadeText). m.state) (sym (syllables_done count i x past)) ∙ is
 
 -- a word more
-sample_next : (count i x : ℕ) → i < count → sample_text x (count - i) ≡ sample_text x (suc (count - (i + 1)))
-sample_next count i x more = let same : count - i ≡ suc (count - (i + 1)) = omega arith in ap (λ n. sample_text x n) same
+sample_next : (count i x : ℕ) → i < count → lines_made x (count - i) ≡ lines_made x (suc (count - (i + 1)))
+sample_next count i x more = let same : count - i ≡ suc (count - (i + 1)) = omega arith in ap (λ n. lines_made x n) same
 
-pub word_more : (count i x : ℕ) (so_far whole : List ℕ) → i < count → so_far ++ sample_text x (count - i) ≡ whole → ((so_far ++ (word x).text) ++ 10 ∷ [])
-    ++ sample_text (word x).state (count - (i + 1)) ≡ whole
+pub word_more : (count i x : ℕ) (so_far whole : List ℕ) → i < count → so_far ++ lines_made x (count - i) ≡ whole → ((so_far ++ (word x).text) ++ 10 ∷ [])
+    ++ lines_made (word x).state (count - (i + 1)) ≡ whole
 word_more count i x so_far whole more is =
-    ap (λ front. front ++ sample_text (word x).state (count - (i + 1))) (append_assoc so_far (word x).text (10 ∷ []))
-    ∙ append_assoc so_far ((word x).text ++ 10 ∷ []) (sample_text (word x).state (count - (i + 1)))
+    ap (λ front. front ++ lines_made (word x).state (count - (i + 1))) (append_assoc so_far (word x).text (10 ∷ []))
+    ∙ append_assoc so_far ((word x).text ++ 10 ∷ []) (lines_made (word x).state (count - (i + 1)))
     ∙ ap (λ rest. so_far ++ rest) (sym (sample_next count i x more))
     ∙ is

@@ -10,19 +10,20 @@ use Rattle.pg_types.specs.declared.limits.TheConstants.{FILE_MAX, WORD_LETTERS_M
 use Rattle.pg_types.specs.declared.marks.Mark.TheVariants.{Missed}
 use Rattle.pg_translate.specs.Inside.tables.Rules.{KeepsRules}
 use Rattle.pg_translate.specs.Inside.spellings.Members.{IsAmong}
-use Rattle.pg_translate.specs.Tables.{default_alphabet, default_letter}
+use Rattle.pg_translate.specs.Tables.{default_alphabet}
+use Rattle.pg_translate.specs.Inside.tables.Checks.{default_letter}
 use Rattle.pg_translate.specs.Tokens.{Token, Letter, Marked}
 use Rattle.pg_translate.specs.Inside.items.Items.{IsItem, text_of_items}
 use Rattle.pg_translate.specs.declared.items.Place.TheVariants.{Dictionary}
 use Rattle.pg_dict.specs.Word.{Word}
 use Rattle.pg_dict.specs.DictionaryWords.{word_of_items, words}
-use Rattle.pg_dict.specs.Inside.LineWords.{word_weight}
-use Rattle.pg_dict.specs.Inside.LineWords.{line_reading, line_word}
+use Rattle.pg_dict.specs.Inside.LineWords.{word_weight, line_reading, line_word}
 use Rattle.pg_dict.specs.Inside.WrittenWords.{letters_among, IsLine, text_of_lines, LinesGive}
 use Rattle.pg_dict.proofs.LineReading.LineLaws.{line_is_read, file_is_read, items_line}
-use Rattle.pg_draws.specs.DrawnNumbers.{next_state, draw}
 use Rattle.pg_words.specs.declared.limits.TheConstants.{COUNT_MAX}
-use Rattle.pg_top.specs.Sampling.{MadeText, ending, syllable, further_syllables, word, words_made, sample_text}
+use Rattle.pg_top.specs.Sampling.{sample_text}
+use Rattle.pg_top.specs.Inside.MadeWords.{next_state, draw, MadeText, ending, syllable, further_syllables, word, words_made}
+use Rattle.pg_top.proofs.sample.MadeLines.{sample_lines_are}
 use Rattle.pg_top.specs.Inside.Sampled.{closings, consonants, vowels}
 use Rattle.pg_types.proofs.BoolFacts.{and_first, and_second}
 
@@ -206,5 +207,8 @@ pub sample_accepted : (seed count : ℕ) → KeepsRules default_alphabet → cou
 sample_accepted seed count rules few =
     let good : AllByRecursion IsSampleLine (words_made count seed) = words_lines count seed in
     let given = lines_given 1 (words_made count seed) rules good in
-    let short : length (text_of_lines (words_made count seed)) ≤ FILE_MAX = omega (arith, file_short (words_made count seed) count (words_count count seed) good) in
-    (given.0, file_is_read default_alphabet (words_made count seed) given.0 (lines_are (words_made count seed) rules good) given.1 short)
+    let short : length (text_of_lines (words_made count seed)) ≤ FILE_MAX = omega (arith, file_short (words_made count seed) count (words_count count seed) good) in (
+      given.0,
+      ap (words default_alphabet) (sample_lines_are seed count)
+          ∙ file_is_read default_alphabet rules (words_made count seed) given.0 (lines_are (words_made count seed) rules good) given.1 short,
+    )

@@ -5,7 +5,7 @@ use Rattle.pg_plans.specs.Plans.{Ending}
 use Rattle.pg_plans.specs.declared.answers.Status.TheVariants.{Done}
 use Rattle.pg_sweep.specs.Files.{sweep_file}
 use Rattle.pg_sweep.specs.Inside.RowsAndWinner.{RowsAndWinner}
-use Rattle.pg_sweep.specs.Sweeps.{costs_of}
+use Rattle.pg_sweep.specs.Promises.{costs_of}
 use Rattle.pg_sweep.specs.Winners.{winner_of}
 use Rattle.pg_sweep.specs.declared.rows.SweepRow.{SweepRow}
 use Rattle.pg_top.specs.Sweeping.{winner_line, rows_ended}

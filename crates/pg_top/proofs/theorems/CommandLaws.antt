@@ -6,7 +6,8 @@ use Rattle.std.specs.Option.{IsSomeAnd, option_and_then, option_map}
 use Rattle.std.specs.FinMap as fin
 use Rattle.std.proofs.lemmas.Bool.{leb-true}
 use Rattle.std.proofs.lemmas.List.{length-map}
-use Rattle.pg_types.specs.Parameters.{Parameters, number, parameters}
+use Rattle.pg_types.specs.Parameters.{Parameters, parameters}
+use Rattle.pg_types.specs.Numbers.{number}
 use Rattle.pg_types.specs.ValuesOrRefusals.{refusal_at}
 use Rattle.pg_types.specs.declared.limits.TheConstants.{FOLDS_MAX, FOLDS_MIN, PRICE_MAX, SETS_MAX}
 use Rattle.pg_types.specs.declared.packed_table.TheConstants.{TABLE_MAX}
@@ -14,17 +15,17 @@ use Rattle.pg_types.specs.declared.refusals.Kind.TheVariants.{TableTooLong}
 use Rattle.pg_types.specs.declared.refusals.Refusal.{Refusal}
 use Rattle.pg_dict.specs.DictionaryWords.{words}
 use Rattle.pg_dict.specs.Word.{Word}
-use Rattle.pg_outside.specs.Content.{FileMap}
+use Rattle.pg_outside.specs.Content.{FileMap, Told}
 use Rattle.pg_patterns.specs.Starts.{start}
 use Rattle.pg_patterns.specs.Texts.{pattern_text}
 use Rattle.pg_patterns.specs.Values as patterns
 use Rattle.pg_prune.proofs.pruning.PrunedLaws.{pruned_part, pruned_alike, pruned_least}
 use Rattle.pg_prune.specs.Prunes.{pruning_of}
 use Rattle.pg_prune.specs.Reports.{prune_report}
-use Rattle.pg_select.specs.CountedPositions.{minima_of}
 use Rattle.pg_sweep.proofs.Winners.{winner_wins}
 use Rattle.pg_sweep.specs.Files.{sweep_file}
-use Rattle.pg_sweep.specs.Sweeps.{set_row, costs_of}
+use Rattle.pg_sweep.specs.Sweeps.{set_row}
+use Rattle.pg_sweep.specs.Promises.{costs_of}
 use Rattle.pg_sweep.specs.Winners.{winner_of}
 use Rattle.pg_sweep.specs.declared.rows.SweepRow.{SweepRow}
 use Rattle.pg_table.specs.Lookups.{table_totals}
@@ -33,7 +34,6 @@ use Rattle.pg_texts.specs.ReportTexts.{ending_text}
 use Rattle.pg_translate.proofs.DefaultRules.{default_keeps}
 use Rattle.pg_translate.specs.Alphabets.{Alphabet, letters_of}
 use Rattle.pg_translate.specs.Tables.{default_alphabet, table}
-use Rattle.pg_plans.specs.Calls.{Told}
 use Rattle.pg_plans.specs.Outcomes.{Outcome, outcome, after_all}
 use Rattle.pg_plans.specs.Plans.{Moment, Plan, Ending, Finishes, Follows}
 use Rattle.pg_plans.specs.declared.answers.Status.{Status}
@@ -46,13 +46,13 @@ use Rattle.pg_words.specs.AcceptedNames.{is_name, outputs_differ, where_accepted
 use Rattle.pg_words.specs.NumbersWithin.{number_within}
 use Rattle.pg_words.specs.declared.limits.TheConstants.{SEED_MAX, COUNT_MAX, SAMPLE_DIGITS, FOLDS_DIGITS, PRICE_DIGITS}
 use Rattle.pg_top.specs.Commands.{IsRun}
-use Rattle.pg_top.specs.Packing.{packed, packed_line, table_packed}
+use Rattle.pg_top.specs.Packing.{packed_line}
 use Rattle.pg_top.specs.PrintedLines.{usage_line}
-use Rattle.pg_top.specs.Pruning.{pruned, pruning_ended}
+use Rattle.pg_top.specs.Inside.Plans.{plan_of_pack, end_of_pack, plan_of_prune, end_of_prune, plan_of_totals}
 use Rattle.pg_top.specs.Sampling.{sampled, sample_inputs, sample_lines, sample_text}
 use Rattle.pg_top.specs.Sweeping.{rows_ended, sets_from, swept}
 use Rattle.pg_top.specs.Theorems.{Means, OthersKept, PruneExact, AreSets, IsPrice, SweepExact, TotalsExact, PackExact, SampleExact}
-use Rattle.pg_top.specs.Totalling.{packed_table, totalled}
+use Rattle.pg_top.specs.Totalling.{packed_table}
 use Rattle.pg_top.proofs.sample.SampleWords.{sample_accepted}
 use Rattle.pg_top.proofs.theorems.MeantInputs.{IsNoRefusal, came_from}
 use Rattle.pg_top.proofs.theorems.RunLaws.{Runs, no_command, Judges, done_is, done_no_refusal}
@@ -82,28 +82,28 @@ others_kept ws x y is name apart = ap (λ (files : FileMap). fin.get files name)
 -- totals
 pub totals_exact : TotalsExact
 totals_exact d t b old new run =
-    let case = accepted_case (d ∷ t ∷ b ∷ []) [] (totalled d t b) Done old new done_no_usage done_no_fault run in
+    let case = accepted_case (d ∷ t ∷ b ∷ []) [] (plan_of_totals d t b) Done old new done_no_usage done_no_fault run in
     told_as old.0.held new.0.held _ _ (λ x y is.
     let none = done_no_refusal old new x y in
     let Q = Judges Done old new x y in
-    let end : Alphabet → List Word → List ℕ → Plan = λ T W B. Ending Done [] (ending_text (table_totals (minima_of T) W B)) in
+    let end : Alphabet → List Word → List ℕ → Plan = λ T W B. Ending Done [] (ending_text (table_totals T W B)) in
     let one = came_from x Translate t table (λ T. input Dictionary d (words T) (λ W. input Table b (packed_table T) (end T W))) Q none is in
     let two = came_from x Dictionary d (words one.0) (λ W. input Table b (packed_table one.0) (end one.0 W)) Q none one.2 in
     let three = came_from x Table b (packed_table one.0) (end one.0 two.0) Q none two.2 in
-    (one.0, two.0, three.0, one.1, two.1, three.1, three.2.1, three.2.2)) (done_is (totalled d t b) old new case.1)
+    (one.0, two.0, three.0, one.1, two.1, three.1, three.2.1, three.2.2)) (done_is (plan_of_totals d t b) old new case.1)
 
 -- prune
 pub prune_exact : PruneExact
 prune_exact d p o t r old new run =
-    let case = accepted_case (d ∷ p ∷ t ∷ []) (o ∷ r ∷ []) (pruned d p o t r) Done old new done_no_usage done_no_fault run in
+    let case = accepted_case (d ∷ p ∷ t ∷ []) (o ∷ r ∷ []) (plan_of_prune d p o t r) Done old new done_no_usage done_no_fault run in
     told_as old.0.held new.0.held _ _ (λ x y is.
     let none = done_no_refusal old new x y in
     let Q = Judges Done old new x y in
-    let end : Alphabet → patterns.Patterns → List Word → Plan = λ T P W. pruning_ended o r T (pruning_of (minima_of T) W P) in
+    let end : Alphabet → patterns.Patterns → List Word → Plan = λ T P W. end_of_prune o r T (pruning_of T W P) in
     let one = came_from x Translate t table (λ T. input Patterns p (start T) (λ P. input Dictionary d (words T) (end T P))) Q none is in
     let two = came_from x Patterns p (start one.0) (λ P. input Dictionary d (words one.0) (end one.0 P)) Q none one.2 in
     let three = came_from x Dictionary d (words one.0) (end one.0 two.0) Q none two.2 in
-    let m = minima_of one.0 in
+    let m = one.0 in
     let found = pruning_of m three.0 two.0 in
     let ws = (o, pattern_text one.0 found.patterns) ∷ (r, prune_report one.0 found) ∷ [] in
     let there = all_written ws (d ∷ p ∷ t ∷ []) x case.0 in (
@@ -120,10 +120,10 @@ prune_exact d p o t r old new run =
         others = others_kept ws x y three.2.1;
         line = three.2.2;
       },
-    )) (done_is (pruned d p o t r) old new case.1)
+    )) (done_is (plan_of_prune d p o t r) old new case.1)
 
 -- pack: where it is done the table is not too long
-packed_ends : (name : List ℕ) (T : Alphabet) (P : patterns.Patterns) (x : FileMap) (Q : Outcome → Type 0) → IsNoRefusal Q → IsSomeAnd (outcome x (table_packed name T P)) Q
+packed_ends : (name : List ℕ) (T : Alphabet) (P : patterns.Patterns) (x : FileMap) (Q : Outcome → Type 0) → IsNoRefusal Q → IsSomeAnd (outcome x (end_of_pack name T P)) Q
     → Q (record { answer = Done; writing = (name, table_text (letters_of T + 1) P) ∷ []; lines = packed_line (pattern_text T P) (table_text (letters_of T + 1) P) })
 packed_ends name T P x Q none is =
     let text = table_text (letters_of T + 1) P in
@@ -137,12 +137,12 @@ packed_ends name T P x Q none is =
 
 pub pack_exact : PackExact
 pack_exact p t o old new run =
-    let case = accepted_case (p ∷ t ∷ []) (o ∷ []) (packed p t o) Done old new done_no_usage done_no_fault run in
+    let case = accepted_case (p ∷ t ∷ []) (o ∷ []) (plan_of_pack p t o) Done old new done_no_usage done_no_fault run in
     told_as old.0.held new.0.held _ _ (λ x y is.
     let none = done_no_refusal old new x y in
     let Q = Judges Done old new x y in
-    let one = came_from x Translate t table (λ T. input Patterns p (start T) (table_packed o T)) Q none is in
-    let two = came_from x Patterns p (start one.0) (table_packed o one.0) Q none one.2 in
+    let one = came_from x Translate t table (λ T. input Patterns p (start T) (end_of_pack o T)) Q none is in
+    let two = came_from x Patterns p (start one.0) (end_of_pack o one.0) Q none one.2 in
     let ends = packed_ends o one.0 two.0 x Q none two.2 in
     let ws = (o, table_text (letters_of one.0 + 1) two.0) ∷ [] in
     let there = all_written ws (p ∷ t ∷ []) x case.0 in (
@@ -153,7 +153,7 @@ pack_exact p t o old new run =
       ap (λ (files : FileMap). fin.get files o) ends.1 ∙ there.0,
       others_kept ws x y ends.1,
       ends.2,
-    )) (done_is (packed p t o) old new case.1)
+    )) (done_is (plan_of_pack p t o) old new case.1)
 
 -- sweep: the sets are read one after the other
 sets_came : (x : FileMap) (k : ℕ) (names : List (List ℕ)) (next : List Parameters → Plan) (Q : Outcome → Type 0) → IsNoRefusal Q → IsSomeAnd (outcome x (sets_from k names next)) Q

@@ -5,13 +5,13 @@ use Rattle.std.specs.List.{AllByRecursion}
 use Rattle.std.specs.Option.{IsSomeAnd, option_and_then, option_map_or}
 use Rattle.std.specs.FinMap as fin
 use Rattle.pg_audit.proofs.Least.{none_where_equal, equal_has_none}
-use Rattle.pg_audit.specs.Differences.{Difference, first_false}
+use Rattle.pg_audit.specs.Differences.{first_false}
 use Rattle.pg_outside.specs.Content.{FileMap}
 use Rattle.pg_plans.specs.Outcomes.{Outcome, outcome}
 use Rattle.pg_plans.specs.Plans.{Plan, Ending}
 use Rattle.pg_plans.specs.declared.answers.Status.TheVariants.{Yes, No}
 use Rattle.pg_steps.specs.declared.inputs.Given.{Given}
-use Rattle.pg_top.specs.Auditing.{compared, no_line}
+use Rattle.pg_top.specs.Auditing.{comparison, no_line}
 use Rattle.pg_top.specs.Selection.{selected_file}
 use Rattle.pg_top.specs.declared.selection.Inputs.{Inputs}
 
@@ -20,22 +20,22 @@ module _ (files : FileMap) (i : Inputs) where
   IsThere g = fin.get files g.1 ≡ Some (selected_file i g.0)
 
   -- what is left by the first false line of a file
-  abbrev judged_by : Given × List ℕ → List (Given × List ℕ) → Option Difference → Plan
-  judged_by g gs difference = option_map_or (λ d. Ending No [] (no_line g.0 d)) difference (compared i gs)
+  abbrev judged_by : Given × List ℕ → List (Given × List ℕ) → Option (ℕ × List ℕ) → Plan
+  judged_by g gs difference = option_map_or (λ d. Ending No [] (no_line g.0 d)) difference (comparison i gs)
 
   abbrev after : Given × List ℕ → List (Given × List ℕ) → List ℕ → Plan
   after g gs bytes = judged_by g gs (first_false bytes (selected_file i g.0))
 
   -- all are there: the answer is yes
-  pub says_yes : (gs : List (Given × List ℕ)) (Q : Outcome → Type 0) → AllByRecursion IsThere gs → IsSomeAnd (outcome files (compared i gs)) Q → (o : Outcome) × (o.answer ≡ Yes) × Q o
+  pub says_yes : (gs : List (Given × List ℕ)) (Q : Outcome → Type 0) → AllByRecursion IsThere gs → IsSomeAnd (outcome files (comparison i gs)) Q → (o : Outcome) × (o.answer ≡ Yes) × Q o
   says_yes [] Q all is = (record { answer = Yes; writing = []; lines = codes "yes\n" }, refl, is)
   says_yes (g ∷ gs) Q all is =
       let text = selected_file i g.0 in
       let read : IsSomeAnd (outcome files (after g gs text)) Q = subst (λ (file : Option (List ℕ)). IsSomeAnd (option_and_then (λ bytes. outcome files (after g gs bytes)) file) Q) all.0 is in
-      says_yes gs Q all.1 (subst (λ (difference : Option Difference). IsSomeAnd (outcome files (judged_by g gs difference)) Q) (equal_has_none text text refl) read)
+      says_yes gs Q all.1 (subst (λ (difference : Option (ℕ × List ℕ)). IsSomeAnd (outcome files (judged_by g gs difference)) Q) (equal_has_none text text refl) read)
 
   -- the answer is yes or no
-  pub yes_or_no : (gs : List (Given × List ℕ)) (Q : Outcome → Type 0) → IsSomeAnd (outcome files (compared i gs)) Q → (o : Outcome) × ((o.answer ≡ Yes) ⊎ (o.answer ≡ No)) × Q o
+  pub yes_or_no : (gs : List (Given × List ℕ)) (Q : Outcome → Type 0) → IsSomeAnd (outcome files (comparison i gs)) Q → (o : Outcome) × ((o.answer ≡ Yes) ⊎ (o.answer ≡ No)) × Q o
   yes_or_no [] Q is = (record { answer = Yes; writing = []; lines = codes "yes\n" }, inl refl, is)
   yes_or_no (g ∷ gs) Q is =
       elim (fin.get files g.1) as (λ file. IsSomeAnd (option_and_then (λ bytes. outcome files (after g gs bytes)) file) Q → (o : Outcome) × ((o.answer ≡ Yes) ⊎ (o.answer ≡ No)) × Q o) [
@@ -56,12 +56,12 @@ module _ (files : FileMap) (i : Inputs) where
     pub right : AllByRecursion IsThere front
     pub bytes : List ℕ
     pub held : fin.get files first.1 ≡ Some bytes
-    pub difference : Difference
+    pub difference : ℕ × List ℕ
     pub differs : first_false bytes (selected_file i first.0) ≡ Some difference
     pub known : Q (record { answer = No; writing = []; lines = no_line first.0 difference })
 
   -- the answer is yes: all are there
-  pub all_there : (gs : List (Given × List ℕ)) (Q : Outcome → Type 0) → ((o : Outcome) → Q o → o.answer ≡ Yes) → IsSomeAnd (outcome files (compared i gs)) Q → AllByRecursion IsThere gs
+  pub all_there : (gs : List (Given × List ℕ)) (Q : Outcome → Type 0) → ((o : Outcome) → Q o → o.answer ≡ Yes) → IsSomeAnd (outcome files (comparison i gs)) Q → AllByRecursion IsThere gs
   all_there [] Q says is = tt
   all_there (g ∷ gs) Q says is =
       elim (fin.get files g.1) as (λ file. fin.get files g.1 ≡ file → IsSomeAnd (option_and_then (λ bytes. outcome files (after g gs bytes)) file) Q → AllByRecursion IsThere (g ∷ gs)) [
@@ -75,7 +75,7 @@ module _ (files : FileMap) (i : Inputs) where
       ] refl is
 
   -- the answer is no: the first that is not there is denied
-  pub denied : (gs : List (Given × List ℕ)) (Q : Outcome → Type 0) → ((o : Outcome) → Q o → o.answer ≡ No) → IsSomeAnd (outcome files (compared i gs)) Q → Denied gs Q
+  pub denied : (gs : List (Given × List ℕ)) (Q : Outcome → Type 0) → ((o : Outcome) → Q o → o.answer ≡ No) → IsSomeAnd (outcome files (comparison i gs)) Q → Denied gs Q
   denied [] Q says is = let never : Yes ≡ No = says (record { answer = Yes; writing = []; lines = codes "yes\n" }) is in cc
   denied (g ∷ gs) Q says is =
       elim (fin.get files g.1) as (λ file. fin.get files g.1 ≡ file → IsSomeAnd (option_and_then (λ bytes. outcome files (after g gs bytes)) file) Q → Denied (g ∷ gs) Q) [

@@ -9,11 +9,10 @@ use Rattle.pg_types.specs.Parameters.{Parameters}
 use Rattle.pg_types.specs.declared.parameters.LevelParams.{LevelParams}
 use Rattle.pg_types.specs.declared.refusals.Refusal.{Refusal}
 use Rattle.pg_dict.specs.Word.{Word}
-use Rattle.pg_outside.specs.Content.{FileMap, FilesShown, SinkShown}
+use Rattle.pg_outside.specs.Content.{FileMap, FilesShown, SinkShown, Told}
 use Rattle.pg_outside.specs.Faults.{next_count}
 use Rattle.pg_patterns.specs.Values.{Patterns}
 use Rattle.pg_translate.specs.Alphabets.{Alphabet}
-use Rattle.pg_plans.specs.Calls.{Told}
 use Rattle.pg_plans.specs.Outcomes.{Outcome, outcome}
 use Rattle.pg_plans.specs.Plans.{Moment, Plan, Ending, Follows}
 use Rattle.pg_plans.specs.declared.answers.Status.TheVariants.{Done, Yes}

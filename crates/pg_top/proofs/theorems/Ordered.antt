@@ -4,9 +4,9 @@ use Rattle.std.specs.Prelude.{All}
 use Rattle.std.specs.FinMap as fin
 use Rattle.std.proofs.lemmas.List.{append-nil, append_assoc}
 use Rattle.std.proofs.lemmas.List.Elements.{All-nil, All-cons}
-use Rattle.pg_outside.specs.Content.{FileMap, FilesShown, SinkShown, HasPart}
+use Rattle.pg_outside.specs.Content.{FileMap, FilesShown, SinkShown, HasPart, Told}
 use Rattle.pg_outside.specs.FilesCalls.{FilesCall, Reads, Writes}
-use Rattle.pg_plans.specs.Calls.{Told, Gets, Puts, PutsPart}
+use Rattle.pg_plans.specs.Calls.{Gets, Puts, PutsPart}
 use Rattle.pg_plans.specs.Outcomes.{after_all}
 use Rattle.pg_plans.specs.Plans.{Moment, Plan, Reading, Ending, Finishes, Follows}
 use Rattle.pg_plans.specs.declared.answers.Status.{Status}

@@ -7,7 +7,6 @@ use Rattle.pg_types.specs.declared.refusals.Refusal.{Refusal}
 use Rattle.pg_dict.specs.DictionaryWords.{words}
 use Rattle.pg_outside.specs.Content.{FileMap}
 use Rattle.pg_patterns.specs.Starts.{start}
-use Rattle.pg_select.specs.CountedPositions.{minima_of}
 use Rattle.pg_select.specs.Sums.{totals}
 use Rattle.pg_table.specs.Lookups.{table_totals}
 use Rattle.pg_table.specs.Texts.{table_text}
@@ -16,7 +15,7 @@ use Rattle.pg_translate.specs.Alphabets.{Alphabet, letters_of}
 use Rattle.pg_translate.specs.Tables.{table}
 use Rattle.pg_plans.specs.declared.answers.Status.TheVariants.{Done}
 use Rattle.pg_plans.proofs.Told.{told_some, was_told}
-use Rattle.pg_top.specs.Packing.{packed}
+use Rattle.pg_top.specs.Inside.Plans.{plan_of_pack}
 use Rattle.pg_top.specs.Promises.{PackPromise, TotalsOfPacked}
 use Rattle.pg_top.specs.Theorems.{Means, OthersKept, PutsLines}
 use Rattle.pg_top.specs.Totalling.{packed_table}
@@ -40,7 +39,7 @@ still_means parse x y o name value kept apart means = record { bytes = means.byt
 
 pub totals_of_packed : TotalsOfPacked
 totals_of_packed p t o d old mid next new packs promised totals_run files after now told =
-    let apart = inputs_apart (o ∷ []) (p ∷ t ∷ []) (accepted_case (p ∷ t ∷ []) (o ∷ []) (packed p t o) Done old mid done_no_usage done_no_fault packs).0 in
+    let apart = inputs_apart (o ∷ []) (p ∷ t ∷ []) (accepted_case (p ∷ t ∷ []) (o ∷ []) (plan_of_pack p t o) Done old mid done_no_usage done_no_fault packs).0 in
     let P : FileMap → FileMap → Type 0 = λ x y. PackPromise x p t in
     let good = promised.pack p t o refl refl in
     let before = was_told old.0.held mid.0.held P files after good in
@@ -56,8 +55,8 @@ totals_of_packed p t o d old mid next new packs promised totals_run files after 
     let third : s.0 ≡ g.alphabet = same_meaning table files t s.0 g.alphabet s.3 table_after in
     let fourth : s.2 ≡ text = same_meaning (packed_table g.alphabet) files o s.2 text (subst (λ (T : Alphabet). Means (packed_table T) files o s.2) third s.5)
     (record { bytes = text; held = held; read = g.good.accepted }) in
-    let same : table_totals (minima_of s.0) s.1 s.2 ≡ totals (minima_of g.alphabet) s.1 g.patterns =
-    (λ k. table_totals (minima_of (third k)) s.1 (fourth k)) ∙ g.good.gives.totals (minima_of g.alphabet) s.1 in (
+    let same : table_totals s.0 s.1 s.2 ≡ totals g.alphabet s.1 g.patterns =
+    (λ k. table_totals (third k) s.1 (fourth k)) ∙ g.good.gives.totals g.alphabet s.1 in (
       g.alphabet,
       g.patterns,
       s.1,

@@ -3,8 +3,7 @@ use Rattle.std.proofs.Common.{◌≡◌, ℕ, List, [], ◌∷◌, ◌++◌, Boo
 use Rattle.std.specs.List.{list_all}
 use Rattle.std.specs.Option.{option_and_then, option_map}
 use Rattle.std.specs.Prelude.{codes}
-use Rattle.pg_outside.specs.Content.{FileMap, FilesShown, SinkShown}
-use Rattle.pg_plans.specs.Calls.{Told}
+use Rattle.pg_outside.specs.Content.{FileMap, FilesShown, SinkShown, Told}
 use Rattle.pg_plans.specs.Plans.{Moment}
 use Rattle.pg_plans.specs.declared.answers.Status.{Status}
 use Rattle.pg_plans.specs.declared.answers.Status.TheVariants as status

@@ -5,9 +5,7 @@ use Rattle.std.specs.List.{list_all, list_any, AllByRecursion}
 use Rattle.std.specs.Option.{IsSomeAnd, option_and_then, IsSome}
 use Rattle.std.specs.FinMap as fin
 use Rattle.std.proofs.lemmas.List.Elements.{All-from_recursion, All-cons, All-contains, All-head, All-push, All-tail, All-weaker, Contains-append_left, Contains-push, recursion_from_All}
-use Rattle.pg_outside.specs.Content.{FileMap, FilesShown}
-use Rattle.pg_outside.specs.Faults.{Rose}
-use Rattle.pg_plans.specs.Calls.{Told}
+use Rattle.pg_outside.specs.Content.{FileMap, FilesShown, Told}
 use Rattle.pg_plans.specs.Laws.{KeepsFiles, HasCause}
 use Rattle.pg_plans.specs.Outcomes.{Outcome, outcome, after_all}
 use Rattle.pg_plans.specs.Plans.{Moment, Plan, Ending, Says, Finishes, Follows}
@@ -19,9 +17,10 @@ use Rattle.pg_plans.proofs.Told.{told_same, told_as, told_some, was_told}
 use Rattle.pg_steps.specs.declared.inputs.Given.{Given}
 use Rattle.pg_steps.specs.declared.inputs.Given.TheVariants as given
 use Rattle.pg_words.specs.AcceptedNames.{is_name, outputs_differ, where_accepted}
-use Rattle.pg_top.specs.Auditing.{audited, compared, is_cells}
+use Rattle.pg_top.specs.Auditing.{comparison}
 use Rattle.pg_top.specs.Commands.{IsRun, plan_of}
-use Rattle.pg_top.specs.Generating.{files_asked, files_of, generated, selected_lines}
+use Rattle.pg_top.specs.Generating.{files_asked, files_of, selected_lines}
+use Rattle.pg_top.specs.Inside.Plans.{plan_of_audit, plan_of_generate}
 use Rattle.pg_top.specs.Orders.{Ended, Went}
 use Rattle.pg_top.specs.PrintedLines.{usage_line}
 use Rattle.pg_top.specs.Selection.{selected_file}
@@ -58,10 +57,10 @@ module _ (status : Status) (old new : Moment) where
   keeps None own run not_done no_fault = same_files old.0 new.0 run.0
   keeps (Some p) own run not_done no_fault = kept_unless_done p status old new own run not_done no_fault
 
-  keeps_unread : (plan : Option Plan) → AreOwn plan → Runs plan status old new → status ≡ Fault → ¬ Rose old.1.faults new.1.faults → (name text : List ℕ) → old.1.text ≡ Some text
+  keeps_unread : (plan : Option Plan) → AreOwn plan → Runs plan status old new → status ≡ Fault → (name text : List ℕ) → old.1.text ≡ Some text
       → new.1.text ≡ Some (text ++ codes "fault: reading " ++ name ++ codes "\n") → KeepsFiles old.0 new.0
-  keeps_unread None own run is none name text before after = same_files old.0 new.0 run.0
-  keeps_unread (Some p) own run is none name text before after = kept_after_unread p old new name text own (subst (λ (s : Status). Follows p s old new) is run) none before after
+  keeps_unread None own run is name text before after = same_files old.0 new.0 run.0
+  keeps_unread (Some p) own run is name text before after = kept_after_unread p old new name text own (subst (λ (s : Status). Follows p s old new) is run) before after
 
   says_usage : (plan : Option Plan) → AreOwn plan → Runs plan status old new → status ≡ Usage → plan ≡ None
   says_usage None own run is = refl
@@ -96,19 +95,19 @@ outputs_of o asked r = map (λ g. g.1) (files_of o asked r)
 -- what is asked for by a call of `generate`
 generate_case : (d p o t a r : List ℕ) (options : List (List ℕ)) (status : Status) (old new : Moment) → ¬ (status ≡ Usage) → ¬ (status ≡ Fault)
     → IsRun (codes "generate" ∷ d ∷ p ∷ o ∷ t ∷ a ∷ r ∷ options) status old new → (asked : List (Given × List ℕ)) × (files_asked options ≡ Some asked)
-    × (outputs_differ (outputs_of o asked r) (d ∷ p ∷ t ∷ a ∷ []) ≡ true) × Follows (generated d p t a (files_of o asked r)) status old new
+    × (outputs_differ (outputs_of o asked r) (d ∷ p ∷ t ∷ a ∷ []) ≡ true) × Follows (plan_of_generate d p t a (files_of o asked r)) status old new
 generate_case d p o t a r options status old new no_usage no_fault run =
     elim (files_asked options) as (λ named. files_asked options ≡ named
-    → Runs (option_and_then (λ asked. where_accepted (d ∷ p ∷ t ∷ a ∷ []) (outputs_of o asked r) (generated d p t a (files_of o asked r))) named) status old new
+    → Runs (option_and_then (λ asked. where_accepted (d ∷ p ∷ t ∷ a ∷ []) (outputs_of o asked r) (plan_of_generate d p t a (files_of o asked r))) named) status old new
     → (asked : List (Given × List ℕ)) × (files_asked options ≡ Some asked)
-    × (outputs_differ (outputs_of o asked r) (d ∷ p ∷ t ∷ a ∷ []) ≡ true) × Follows (generated d p t a (files_of o asked r)) status old new) [
+    × (outputs_differ (outputs_of o asked r) (d ∷ p ∷ t ∷ a ∷ []) ≡ true) × Follows (plan_of_generate d p t a (files_of o asked r)) status old new) [
       | None ↦ λ is h. no_command status old new no_usage no_fault h
       | Some asked ↦ λ is h.
           let names : Bool = list_all is_name ((d ∷ p ∷ t ∷ a ∷ []) ++ outputs_of o asked r) in
           let differ : Bool = outputs_differ (outputs_of o asked r) (d ∷ p ∷ t ∷ a ∷ []) in
-          elim (names && differ) as (λ b. (names && differ) ≡ b → Runs (if b then Some (generated d p t a (files_of o asked r)) else None) status old new
+          elim (names && differ) as (λ b. (names && differ) ≡ b → Runs (if b then Some (plan_of_generate d p t a (files_of o asked r)) else None) status old new
           → (asked : List (Given × List ℕ)) × (files_asked options ≡ Some asked)
-          × (outputs_differ (outputs_of o asked r) (d ∷ p ∷ t ∷ a ∷ []) ≡ true) × Follows (generated d p t a (files_of o asked r)) status old new) [
+          × (outputs_differ (outputs_of o asked r) (d ∷ p ∷ t ∷ a ∷ []) ≡ true) × Follows (plan_of_generate d p t a (files_of o asked r)) status old new) [
             | true ↦ λ accepted follows. (asked, is, (both names differ accepted).1, follows)
             | false ↦ λ accepted h. no_command status old new no_usage no_fault h
           ] refl h
@@ -117,17 +116,17 @@ generate_case d p o t a r options status old new no_usage no_fault run =
 -- what is asked for by a call of `audit`
 audit_case : (d p o t a r : List ℕ) (options : List (List ℕ)) (status : Status) (old new : Moment) → ¬ (status ≡ Usage) → ¬ (status ≡ Fault)
     → IsRun (codes "audit" ∷ d ∷ p ∷ o ∷ t ∷ a ∷ r ∷ options) status old new → (asked : List (Given × List ℕ)) × (files_asked options ≡ Some asked)
-    × Follows (audited d p t a (files_of o asked r)) status old new
+    × Follows (plan_of_audit d p t a (files_of o asked r)) status old new
 audit_case d p o t a r options status old new no_usage no_fault run =
     elim (files_asked options) as (λ named. files_asked options ≡ named
-    → Runs (option_and_then (λ asked. if list_all is_name (d ∷ p ∷ t ∷ a ∷ outputs_of o asked r) && not (list_any (λ g. is_cells g.0) asked)
-    then Some (audited d p t a (files_of o asked r)) else None) named) status old new
-    → (asked : List (Given × List ℕ)) × (files_asked options ≡ Some asked) × Follows (audited d p t a (files_of o asked r)) status old new) [
+    → Runs (option_and_then (λ asked. if list_all is_name (d ∷ p ∷ t ∷ a ∷ outputs_of o asked r) && not (list_any (λ g. elim g.0 [ given.Cells ↦ true | other ↦ false ]) asked)
+    then Some (plan_of_audit d p t a (files_of o asked r)) else None) named) status old new
+    → (asked : List (Given × List ℕ)) × (files_asked options ≡ Some asked) × Follows (plan_of_audit d p t a (files_of o asked r)) status old new) [
       | None ↦ λ is h. no_command status old new no_usage no_fault h
       | Some asked ↦ λ is h.
-          elim (list_all is_name (d ∷ p ∷ t ∷ a ∷ outputs_of o asked r) && not (list_any (λ g. is_cells g.0) asked)) as
-          (λ b. Runs (if b then Some (audited d p t a (files_of o asked r)) else None) status old new
-          → (asked : List (Given × List ℕ)) × (files_asked options ≡ Some asked) × Follows (audited d p t a (files_of o asked r)) status old new) [
+          elim (list_all is_name (d ∷ p ∷ t ∷ a ∷ outputs_of o asked r) && not (list_any (λ g. elim g.0 [ given.Cells ↦ true | other ↦ false ]) asked)) as
+          (λ b. Runs (if b then Some (plan_of_audit d p t a (files_of o asked r)) else None) status old new
+          → (asked : List (Given × List ℕ)) × (files_asked options ≡ Some asked) × Follows (plan_of_audit d p t a (files_of o asked r)) status old new) [
             | true ↦ λ follows. (asked, is, follows)
             | false ↦ λ h. no_command status old new no_usage no_fault h
           ] h
@@ -179,7 +178,7 @@ module _ (d p o t a r : List ℕ) (options : List (List ℕ)) where
       told_as old.0.held new.0.held _ _ (λ x y is.
       let from = selected_from d p t a end x (Judges Done old new x y) (done_no_refusal old new x y) is in
       record { asked = case.0; named = case.1; differ = case.2; i = from.0; has = from.1; files = from.2.1; lines = from.2.2 })
-      (done_is (generated d p t a (files_of o case.0 r)) old new case.3)
+      (done_is (plan_of_generate d p t a (files_of o case.0 r)) old new case.3)
 
   others_kept : (old new : Moment) (x y : FileMap) (w : Wrote d p o t a r options old new x y) (q : List ℕ) → NotAmong q (outputs_of o w.asked r) → fin.get y q ≡ fin.get x q
   others_kept old new x y w q apart = ap (λ (m : FileMap). fin.get m q) w.files
@@ -217,9 +216,9 @@ generate_exact d p o t a r options old new run = told_as old.0.held new.0.held (
 
 -- the answer of `audit` over inputs that are accepted
 judged : (d p t a : List ℕ) (gs : List (Given × List ℕ)) (status : Status) (old new : Moment) (x y : FileMap) (i : Inputs) → HasInputs x d p t a i
-    → IsSomeAnd (outcome x (audited d p t a gs)) (Judges status old new x y) → ((status ≡ Yes) ⊎ (status ≡ No)) × ((status ≡ Yes) ↔ AreTheirTexts x i gs) × (status ≡ No → DeniesFirst old new x i gs)
+    → IsSomeAnd (outcome x (plan_of_audit d p t a gs)) (Judges status old new x y) → ((status ≡ Yes) ⊎ (status ≡ No)) × ((status ≡ Yes) ↔ AreTheirTexts x i gs) × (status ≡ No → DeniesFirst old new x i gs)
 judged d p t a gs status old new x y i has is =
-    let there : IsSomeAnd (outcome x (compared i gs)) (Judges status old new x y) = selected_by d p t a (λ j. compared j gs) x (Judges status old new x y) i has is in
+    let there : IsSomeAnd (outcome x (comparison i gs)) (Judges status old new x y) = selected_by d p t a (λ j. comparison j gs) x (Judges status old new x y) i has is in
     let either = yes_or_no x i gs (Judges status old new x y) there in (
       (elim either.1 [ inl says ↦ inl (either.2.0 ∙ says) | inr says ↦ inr (either.2.0 ∙ says) ]),
       (
@@ -242,13 +241,25 @@ judged d p t a gs status old new x y i has is =
           }),
     )
 
+-- an audit that says yes has accepted its inputs
+accepted : (d p t a : List ℕ) (gs : List (Given × List ℕ)) (status : Status) (old new : Moment) (x y : FileMap) → status ≡ Yes
+    → IsSomeAnd (outcome x (plan_of_audit d p t a gs)) (Judges status old new x y) → (i : Inputs) × HasInputs x d p t a i
+accepted d p t a gs status old new x y says is =
+    let from = selected_from d p t a (λ i. comparison i gs) x (Judges status old new x y) (λ o judged refused. let e : Yes ≡ Refused = sym says ∙ judged.0 ∙ refused in cc) is in
+    (from.0, from.1)
+
 pub audit_exact : AuditExact
 audit_exact d p o t a r options status old new run no_usage no_fault enough =
     let case = audit_case d p o t a r options status old new no_usage no_fault run in
-    elim (answered (audited d p t a (files_of o case.0 r)) status old new case.2) [
+    elim (answered (plan_of_audit d p t a (files_of o case.0 r)) status old new case.2) [
       | inl fault ↦ absurd (no_fault fault.0)
       | inr (inl short) ↦ absurd (enough short.0)
-      | inr (inr done) ↦ told_as old.0.held new.0.held _ _ (λ x y is. (case.0, case.1, λ i has. judged d p t a (files_of o case.0 r) status old new x y i has is)) done
+      | inr (inr done) ↦ told_as old.0.held new.0.held _ _ (λ x y is. (
+        case.0,
+        case.1,
+        (λ says. accepted d p t a (files_of o case.0 r) status old new x y says is),
+        λ i has. judged d p t a (files_of o case.0 r) status old new x y i has is,
+      )) done
     ]
 
 pub some_told : {X : Type 0} (h : Option X) → IsSome h → (x : X) × (h ≡ Some x)
@@ -287,5 +298,5 @@ audit_accepts d p o t a r options own status old mid next new generates audits a
     let of_written : IfSome (files_asked own) (λ asked. All (Contains w.asked) asked) =
     subst (λ (written : Option (List (Given × List ℕ))). IfSome written (λ written. IfSome (files_asked own) (λ asked. All (Contains written) asked))) w.named among in
     let of_both : All (Contains w.asked) judges.0 = subst (λ (asked : Option (List (Given × List ℕ))). IfSome asked (λ asked. All (Contains w.asked) asked)) judges.1 of_written in
-    (judges.2 w.i (inputs_kept d p o t a r options old mid before.0 files w)).1.1
+    (judges.3 w.i (inputs_kept d p o t a r options old mid before.0 files w)).1.1
     (fewer_texts files w.i o r w.asked judges.0 of_both (given_written d p o t a r options old mid before.0 files w)))

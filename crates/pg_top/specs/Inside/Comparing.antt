@@ -1,7 +1,7 @@
 -- Given files as they are compared, and what the comparison gives.
 use Rattle.std.specs.Prelude.{ℕ, Option, List, [], ◌∷◌, codes}
 use Rattle.std.specs.Option.{option_map_or}
-use Rattle.pg_audit.specs.Differences.{Difference, first_false}
+use Rattle.pg_audit.specs.Differences.{first_false}
 use Rattle.pg_plans.specs.Plans.{Plan, Reading, Ending}
 use Rattle.pg_plans.specs.declared.answers.Status.TheVariants.{Yes, No}
 use Rattle.pg_steps.specs.declared.inputs.Given.{Given}
@@ -10,7 +10,7 @@ use Rattle.pg_top.specs.declared.audit.compare.Verdict.{Verdict}
 use Rattle.pg_top.specs.declared.audit.compare.Verdict.TheVariants.{Equal, False}
 
 -- the plan that goes on by the first false line of a file
-abbrev pub judged : Given → Option Difference → Plan → Plan
+abbrev pub judged : Given → Option (ℕ × List ℕ) → Plan → Plan
 judged given difference rest =
     option_map_or (λ d. Ending No [] (no_line given d)) difference rest
 

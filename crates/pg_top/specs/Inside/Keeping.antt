@@ -1,6 +1,5 @@
 -- What is promised of what is asked for.
-use Rattle.pg_outside.specs.Content.{FilesShown}
-use Rattle.pg_plans.specs.Calls.{Told}
+use Rattle.pg_outside.specs.Content.{FilesShown, Told}
 use Rattle.pg_words.specs.Inside.Requests.{Request, ToGenerate, ToPack, ToPrune}
 use Rattle.pg_top.specs.Promises.{GeneratePromise, PackPromise, PrunePromise}
 

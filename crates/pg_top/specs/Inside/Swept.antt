@@ -12,7 +12,8 @@ use Rattle.pg_plans.specs.Plans.{Moment, Plan, Follows}
 use Rattle.pg_plans.specs.declared.answers.Status.{Status}
 use Rattle.pg_steps.specs.InputPlans.{input as read}
 use Rattle.pg_steps.specs.declared.inputs.Input.TheVariants as input
-use Rattle.pg_sweep.specs.Sweeps.{Terms, set_row, costs_of}
+use Rattle.pg_sweep.specs.Sweeps.{Terms, set_row}
+use Rattle.pg_sweep.specs.Promises.{costs_of}
 use Rattle.pg_sweep.specs.Inside.RowsAndWinner.{RowsAndWinner}
 use Rattle.pg_words.specs.Inside.forms.Sweep.{SweepRequest}
 use Rattle.pg_top.specs.Sweeping.{sets_from, winner_line, rows_ended}

@@ -37,7 +37,7 @@ fn push_found(text: &mut Vec<u8>, found: &[u8]) -> Result<(), AllocError>
 /// The line that says which line of a given file is false, and what stands there.
 pub fn no_line(alloc: Global, given: Given, line: &FalseLine<'_>) -> Result<Vec<u8>, AllocError>
     ensures { IfOk result (λ text. text.items
-        ≡ no_line_of given (record { line = line.now.line; found = line.now.found.now })) }
+        ≡ no_line_of given (line.now.line, line.now.found.now)) }
 {
     let mut text = Vec::from_slice(alloc, b"no: ")?;
     push_label(&mut text, Input::Given(given))?;

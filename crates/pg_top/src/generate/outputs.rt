@@ -8,7 +8,8 @@ ghost use Rattle.pg_top.specs.Inside.selection.SelectionAccounts.{work_line, sel
 ghost use Rattle.pg_top.specs.Inside.selection.SelectedFiles.{written_file, selected_files};
 ghost use Rattle.pg_top.specs.Inside.selection.SelectedRuns.{IsNew, TellsSelection, HasSelected};
 ghost use Rattle.pg_top.specs.ReadingBack.{ReadsBackPatterns};
-ghost use Rattle.pg_top.specs.Selection.{selected_text, selected_patterns};
+ghost use Rattle.pg_steps.specs.declared.inputs.Given.TheVariants as given;
+ghost use Rattle.pg_top.specs.Selection.{selected_file, selected_patterns};
 ghost use Rattle.pg_top.specs.Inside.selection.SelectionSigns.{HasSigns, greatest_sign_of};
 ghost use Rattle.pg_steps.specs.Inside.Texts.{writing_of};
 ghost use Rattle.pg_types.specs.Lines.{lines};
@@ -57,7 +58,7 @@ fn make_lines(
     run: &Run,
     inputs: &Inputs,
 ) -> Result<Vec<u8>, AllocError>
-    requires text { patterns.now ≡ selected_text inputs.now }
+    requires text { patterns.now ≡ selected_file inputs.now given.Patterns }
     requires told { TellsSelection inputs.now run.now }
     requires cells { TellsCells (Some (selected_cells inputs.now)) run.now }
     ensures { IfOk result (λ lines. lines.items ≡ selected_lines inputs.now) }

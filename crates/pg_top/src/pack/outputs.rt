@@ -6,7 +6,8 @@ ghost use Rattle.pg_translate.specs.Alphabets.{letters_of};
 ghost use Rattle.pg_patterns.specs.Texts.{pattern_text};
 ghost use Rattle.pg_steps.specs.Inside.Steps.{Begins};
 ghost use Rattle.pg_steps.specs.Inside.Texts.{ending_of, writing_of};
-ghost use Rattle.pg_top.specs.Packing.{table_packed, packed_line as packed_line_of};
+ghost use Rattle.pg_top.specs.Packing.{packed_line as packed_line_of};
+ghost use Rattle.pg_top.specs.Inside.Plans.{end_of_pack};
 ghost use Rattle.pg_top.specs.Inside.Packed.{stop_of_table};
 ghost use Rattle.pg_types.specs.Lines.{lines};
 ghost use Rattle.pg_table.specs.Texts.{table_text as table_text_of};
@@ -87,7 +88,7 @@ pub fn make_table<'a, W: Watch>(
 ) -> Result<BuiltTexts<'a>, Stop<'a>>
     requires { SignsUpTo (letters_of table.now + 1) patterns.now }
     ensures made { (files : FilesShown)
-        → Begins (table_packed name.now table.now patterns.now) result ending_of files files }
+        → Begins (end_of_pack name.now table.now patterns.now) result ending_of files files }
     ensures good { IfOk result (λ _. IsGoodTable table.now patterns.now
         (table_text_of (letters_of table.now + 1) patterns.now)) }
 {

@@ -5,10 +5,10 @@ ghost use Rattle.pg_patterns.specs.Inside.PatternMaps.{SignsUpTo};
 ghost use Rattle.pg_prune.specs.Reports.{prune_report};
 ghost use Rattle.pg_translate.specs.Alphabets.{letters_of};
 ghost use Rattle.pg_prune.specs.Prunes.{pruning_of};
-ghost use Rattle.pg_select.specs.CountedPositions.{minima_of};
 ghost use Rattle.pg_steps.specs.Inside.Texts.{ending_of, writing_of};
 ghost use Rattle.pg_top.specs.ReadingBack.{ReadsBackPatterns};
-ghost use Rattle.pg_top.specs.Pruning.{pruning_ended, rounds_line as rounds_line_of};
+ghost use Rattle.pg_top.specs.Pruning.{rounds_line as rounds_line_of};
+ghost use Rattle.pg_top.specs.Inside.Plans.{end_of_prune};
 ghost use Rattle.pg_types.specs.Lines.{lines};
 
 use pg_dict::Dictionary;
@@ -101,7 +101,7 @@ fn write_pruned<'a>(
 ) -> Result<BuiltTexts<'a>, AllocError>
     requires { SignsUpTo (letters_of table.now + 1) pruned.now.patterns }
     ensures made { IfOk result (λ made. ending_of made
-        ≡ pruning_ended names.now.output.now names.now.report.now table.now pruned.now) }
+        ≡ end_of_prune names.now.output.now names.now.report.now table.now pruned.now) }
     ensures reads_back { IfOk result (λ _. ReadsBackPatterns table.now pruned.now.patterns) }
 {
     let mut files = Vec::new(alloc);
@@ -123,10 +123,10 @@ pub fn make_prune<'a, W: Watch>(
 ) -> Result<BuiltTexts<'a>, AllocError>
     requires { SignsUpTo (letters_of table.now + 1) patterns.now }
     ensures made { IfOk result (λ made. ending_of made
-        ≡ pruning_ended names.now.output.now names.now.report.now table.now
-        (pruning_of (minima_of table.now) dictionary.now patterns.now)) }
+        ≡ end_of_prune names.now.output.now names.now.report.now table.now
+        (pruning_of table.now dictionary.now patterns.now)) }
     ensures reads_back { IfOk result (λ _. ReadsBackPatterns table.now
-        (pruning_of (minima_of table.now) dictionary.now patterns.now).patterns) }
+        (pruning_of table.now dictionary.now patterns.now).patterns) }
 {
     let pruned = prune_watched(alloc, dictionary, table, patterns, &RoundTeller { watch })?;
     write_pruned(alloc, names, table, &pruned)

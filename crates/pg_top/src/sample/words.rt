@@ -1,8 +1,8 @@
 //! The dictionary of `sample`: words made from a number.
 ghost use Rattle.std.specs.Prelude.{◌≡◌, ◌≤◌, ◌++◌, IfOk, OnOk};
-ghost use Rattle.pg_draws.specs.DrawnNumbers.{next_state};
 ghost use Rattle.pg_words.specs.declared.limits.TheConstants.{COUNT_MAX};
-ghost use Rattle.pg_top.specs.Sampling.{ending, syllable as syllable_of, further_syllables, word as word_of_state, sample_text as text_of};
+ghost use Rattle.pg_top.specs.Sampling.{sample_text as text_of};
+ghost use Rattle.pg_top.specs.Inside.MadeWords.{next_state, ending, syllable as syllable_of, further_syllables, word as word_of_state};
 
 use pg_draws::Draws;
 use std::alloc::{AllocError, Global};
@@ -17,7 +17,7 @@ const VOWELS: &[u8] = b"aeiou";
 const CLOSINGS: &[u8] = b"nrs";
 
 /// Appends the end of a syllable, a consonant or nothing.
-#[tactic(auto, unfolding(crate::specs::Sampling::ending))]
+#[tactic(auto, unfolding(crate::specs::Inside::MadeWords::ending))]
 fn push_ending(text: &mut Vec<u8>, draws: &mut Draws) -> Result<(), AllocError>
     ensures text { OnOk result
         (text.new.items ≡ text.old.items ++ (ending (next_state draws.old)).text) }
@@ -30,7 +30,7 @@ fn push_ending(text: &mut Vec<u8>, draws: &mut Draws) -> Result<(), AllocError>
 }
 
 /// Appends a syllable.
-#[tactic(auto, unfolding(crate::specs::Sampling::syllable))]
+#[tactic(auto, unfolding(crate::specs::Inside::MadeWords::syllable))]
 fn push_syllable(text: &mut Vec<u8>, draws: &mut Draws) -> Result<(), AllocError>
     ensures text { OnOk result (text.new.items ≡ text.old.items ++ (syllable_of draws.old).text) }
     ensures state { OnOk result (draws.new ≡ (syllable_of draws.old).state) }
@@ -54,7 +54,7 @@ fn push_further(text: &mut Vec<u8>, draws: &mut Draws, count: usize) -> Result<(
 }
 
 /// Appends a word.
-#[tactic(auto, unfolding(crate::specs::Sampling::word))]
+#[tactic(auto, unfolding(crate::specs::Inside::MadeWords::word))]
 fn push_word(text: &mut Vec<u8>, draws: &mut Draws) -> Result<(), AllocError>
     ensures text { OnOk result (text.new.items ≡ text.old.items ++ (word_of_state draws.old).text) }
     ensures state { OnOk result (draws.new ≡ (word_of_state draws.old).state) }

@@ -2,7 +2,8 @@
 use Rattle.std.specs.Prelude.{◌≡◌, ℕ, ◌+◌, ◌≤◌, List, take, length, min, Option, Some, None, IsSome, ◌⊎◌}
 use Rattle.std.specs.FinMap as fin
 use Rattle.pg_outside.specs.Inside.calls.ListedCalls.{ListedCalls, listed_calls}
-use Rattle.pg_outside.specs.Content.{FileMap, FilesShown, file_at}
+use Rattle.pg_outside.specs.Content.{FileMap, FilesShown}
+use Rattle.pg_outside.specs.Inside.ToldFiles.{file_at}
 use Rattle.pg_outside.specs.Faults.{next_count}
 use Rattle.pg_outside.specs.Inside.NameFaults.{EachRose, RoseByOneAtMost, SameCounts}
 use Rattle.pg_outside.specs.FilesCalls.{FilesCall}

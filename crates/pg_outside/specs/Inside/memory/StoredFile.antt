@@ -2,7 +2,8 @@
 use Rattle.std.specs.Prelude.{◌≡◌, ℕ, ◌<◌, List, [], ◌∷◌, ◌++◌, Bool, cond, map, length, slice_index_or, slice_set, Some, None, vec_capacity, string_bytes}
 use Rattle.std.specs.Str.{bytes_eq}
 use Rattle.std.specs.FinMap as fin
-use Rattle.pg_outside.specs.Content.{FileMap, file_at}
+use Rattle.pg_outside.specs.Content.{FileMap}
+use Rattle.pg_outside.specs.Inside.ToldFiles.{file_at}
 use Rattle.pg_outside.specs.Inside.NameFaults.{NoneFell, SameCounts}
 use Rattle.pg_outside.specs.declared.memory.stored.StoredFile.{StoredFile}
 

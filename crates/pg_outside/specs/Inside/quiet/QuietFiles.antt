@@ -1,6 +1,7 @@
 -- What `QuietFiles` shows: the files that it stores, and whether it tells them.
 use Rattle.std.specs.Prelude.{◌≡◌, ℕ, List, Bool, cond, Option, Some, None, IsSome}
-use Rattle.pg_outside.specs.Content.{FileMap, FilesShown, file_at}
+use Rattle.pg_outside.specs.Content.{FileMap, FilesShown}
+use Rattle.pg_outside.specs.Inside.ToldFiles.{file_at}
 use Rattle.pg_outside.specs.FilesCalls.{FilesCall}
 use Rattle.pg_outside.specs.Inside.memory.StoredFile.{file_map}
 use Rattle.pg_outside.specs.declared.quiet.files.QuietFiles.{QuietFiles}

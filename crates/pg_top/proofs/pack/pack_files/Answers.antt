@@ -9,7 +9,7 @@ use Rattle.pg_top.specs.Theorems.{Means}
 use Rattle.pg_top.proofs.theorems.MeantReads.{alphabet_code, patterns_code, meant}
 use Rattle.pg_steps.specs.Inside.Texts.{ending_of}
 use Rattle.pg_steps.proofs.Stopping.{stops}
-use Rattle.pg_top.specs.Packing.{table_packed}
+use Rattle.pg_top.specs.Inside.Plans.{end_of_pack}
 use Rattle.pg_top.proofs.pack.pack_files.Goals as goal
 
 pub returns-in_err-table-clause-begins : goal.returns-in_err-table-clause-begins
@@ -23,14 +23,14 @@ returns-in_err-patterns-clause-begins g c status sink new h =
 
 pub returns-in_err-outputs-clause-begins : goal.returns-in_err-outputs-clause-begins
 returns-in_err-outputs-clause-begins g c status sink new h =
-    let end = table_packed c.args.names.now.table.now c.in_ok-table.table in
+    let end = end_of_pack c.args.names.now.table.now c.in_ok-table.table in
     c.in_ok-table.ensures _ status sink new (c.in_ok-patterns.ensures.read end status sink new
     (c.in_err-outputs.ensures.made (g.F.Files.shown c.read_patterns.new.files) status sink new
     (stops c.from_residual-in_err-outputs.result ending_of _ status _ new c.from_residual-in_err-outputs.ensures.1 h)))
 
 pub returns-clause-begins : goal.returns-clause-begins
 returns-clause-begins g c status sink new h =
-    let end = table_packed c.args.names.now.table.now c.in_ok-table.table in
+    let end = end_of_pack c.args.names.now.table.now c.in_ok-table.table in
     c.in_ok-table.ensures _ status sink new (c.in_ok-patterns.ensures.read end status sink new
     (c.in_ok-outputs.ensures.made (g.F.Files.shown c.read_patterns.new.files) status sink new h))
 

@@ -1,6 +1,6 @@
 use Rattle.std.proofs.Common.{◌≡◌, ◌∙◌, List, subst}
 use Rattle.pg_dict.specs.DictionaryWords.{words}
-use Rattle.pg_outside.specs.Content.{FileMap}
+use Rattle.pg_outside.specs.Content.{FileMap, Told}
 use Rattle.pg_patterns.specs.Starts.{start}
 use Rattle.pg_plans.proofs.Told.{told_on}
 use Rattle.pg_steps.specs.declared.inputs.Input.TheVariants.{Translate, Patterns, Dictionary}
@@ -8,14 +8,12 @@ use Rattle.pg_translate.specs.Tables.{table}
 use Rattle.pg_top.specs.Promises.{PrunePromise}
 use Rattle.pg_top.specs.Theorems.{Means}
 use Rattle.pg_top.proofs.theorems.MeantReads.{alphabet_code, patterns_code, words_code, meant}
-use Rattle.pg_plans.specs.Calls.{Told}
 use Rattle.pg_plans.specs.Plans.{Plan, Follows}
 use Rattle.pg_dict.specs.Word.{Word}
 use Rattle.pg_prune.specs.Prunes.{pruning_of}
-use Rattle.pg_select.specs.CountedPositions.{minima_of}
 use Rattle.pg_steps.specs.Inside.Texts.{ending_of}
 use Rattle.pg_steps.proofs.Stopping.{stops, stops_short}
-use Rattle.pg_top.specs.Pruning.{pruning_ended}
+use Rattle.pg_top.specs.Inside.Plans.{end_of_prune}
 use Rattle.pg_top.proofs.prune.prune_files.Goals as goal
 
 pub returns-in_err-table-clause-begins : goal.returns-in_err-table-clause-begins
@@ -37,7 +35,7 @@ returns-in_err-outputs-clause-begins g c status sink new h =
     let n = c.args.names.now in
     let T = c.in_ok-table.table in
     let P = c.in_ok-patterns.patterns in
-    let end : List Word → Plan = λ W. pruning_ended n.output.now n.report.now T (pruning_of (minima_of T) W P) in
+    let end : List Word → Plan = λ W. end_of_prune n.output.now n.report.now T (pruning_of T W P) in
     c.in_ok-table.ensures _ status sink new (c.in_ok-patterns.ensures.read _ status sink new (c.in_ok-dictionary.ensures.read end status sink new
     (stops_short c.from_residual-in_err-outputs.result ending_of (end c.in_ok-dictionary.dictionary) status _ new c.from_residual-in_err-outputs.ensures.1 h)))
 
@@ -46,7 +44,7 @@ returns-clause-begins g c status sink new h =
     let n = c.args.names.now in
     let T = c.in_ok-table.table in
     let P = c.in_ok-patterns.patterns in
-    let end : List Word → Plan = λ W. pruning_ended n.output.now n.report.now T (pruning_of (minima_of T) W P) in
+    let end : List Word → Plan = λ W. end_of_prune n.output.now n.report.now T (pruning_of T W P) in
     c.in_ok-table.ensures _ status sink new (c.in_ok-patterns.ensures.read _ status sink new (c.in_ok-dictionary.ensures.read end status sink new
     (subst (λ (p : Plan). Follows p status (g.F.Files.shown c.read_dictionary.new.files, sink) new) c.in_ok-outputs.ensures.made h)))
 

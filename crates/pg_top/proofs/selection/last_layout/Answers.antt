@@ -1,7 +1,7 @@
 use Rattle.std.proofs.Common.{◌≡◌, ℕ, zero, suc, map, length, List, [], ◌∷◌, slice_index_or, refl, ap, ◌∙◌, arith}
 use Rattle.std.proofs.lemmas.Grind.{common_steps}
 use Rattle.pg_driver.specs.declared.records.LevelRecord.{LevelRecord}
-use Rattle.pg_translate.specs.Gaps.{last_else}
+use Rattle.pg_translate.specs.Inside.items.GapItems.{last_else}
 use Rattle.pg_top.proofs.selection.last_layout.Goals as goal
 
 -- the last of a list that is not empty

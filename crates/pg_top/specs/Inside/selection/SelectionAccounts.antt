@@ -2,9 +2,8 @@
 use Rattle.std.specs.Prelude.{ℕ, List, ◌++◌, map, codes, decimal}
 use Rattle.pg_types.specs.declared.marks.Layout.{Layout}
 use Rattle.pg_types.specs.Placement.{Families}
-use Rattle.pg_translate.specs.Gaps.{last_else}
+use Rattle.pg_translate.specs.Inside.items.GapItems.{last_else}
 use Rattle.pg_packed.specs.Inside.Starts.{pattern_families}
-use Rattle.pg_driver.specs.Traces.{source_of}
 use Rattle.pg_driver.specs.Accounts.{begun_count}
 use Rattle.pg_driver.specs.Inside.records.AccountLines.{Account, account}
 use Rattle.pg_driver.specs.Inside.records.CellsAccounts.{CellsAccount, cells_account}
@@ -15,7 +14,7 @@ use Rattle.pg_top.specs.declared.selection.Inputs.{Inputs}
 
 -- what is told of that run
 unfoldable pub selected_account : Inputs → Account
-selected_account i = account (source_of i.table i.dictionary) i.start (selection i)
+selected_account i = account i.table i.dictionary i.start (selection i)
 
 -- how many passes of that run are begun
 unfoldable pub passes_begun : Inputs → ℕ

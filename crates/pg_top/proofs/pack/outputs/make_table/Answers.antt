@@ -7,7 +7,8 @@ use Rattle.pg_steps.proofs.Stopping.{stops_short}
 use Rattle.pg_table.specs.Texts.{table_text}
 use Rattle.pg_table.specs.declared.error.TableError.TheVariants as table_error
 use Rattle.pg_types.specs.declared.packed_table.TheConstants.{TABLE_MAX}
-use Rattle.pg_top.specs.Packing.{packed_line, table_packed}
+use Rattle.pg_top.specs.Packing.{packed_line}
+use Rattle.pg_top.specs.Inside.Plans.{end_of_pack}
 use Rattle.pg_top.specs.Inside.Packed.{packed_text}
 use Rattle.pg_top.proofs.pack.PackedTexts.{packed_short, stops_making}
 use Rattle.pg_table.proofs.laws.PackedValues.{values_are_packed, totals_are_packed}
@@ -25,12 +26,12 @@ returns-in_ok-outputs-in-Ok-clause-made g c shown status sink new h =
     let short : length (packed_text t P) ≤ TABLE_MAX = subst (λ n. length (table_text (n + 1) P) ≤ TABLE_MAX) c.letters.ensures.value c.in-Ok.ensures.short in
     let files = c.in_ok-outputs-in-Ok.ensures.files ∙ ap (λ (b : List ℕ). (name, b) ∷ []) text in
     let lines = c.in_ok-outputs-in-Ok.ensures.lines ∙ ap (λ (b : List ℕ). packed_line (pattern_text t P) b) text in
-    let is : ending_of c.in_ok-outputs-in-Ok.outputs ≡ table_packed name t P = (λ k. Ending Done (files k) (lines k)) ∙ sym (packed_short name t P short) in
+    let is : ending_of c.in_ok-outputs-in-Ok.outputs ≡ end_of_pack name t P = (λ k. Ending Done (files k) (lines k)) ∙ sym (packed_short name t P short) in
     subst (λ (p : Plan). Follows p status (shown, sink) new) is h
 
 pub returns-in_err-outputs-in-Ok-clause-made : goal.returns-in_err-outputs-in-Ok-clause-made
 returns-in_err-outputs-in-Ok-clause-made g c shown status sink new h =
-    stops_short c.from_residual.result ending_of (table_packed c.args.name.now c.args.table.now c.args.patterns.now) status (shown, sink) new
+    stops_short c.from_residual.result ending_of (end_of_pack c.args.name.now c.args.table.now c.args.patterns.now) status (shown, sink) new
     c.from_residual.ensures.1 h
 
 pub returns-in-Err-clause-made : goal.returns-in-Err-clause-made

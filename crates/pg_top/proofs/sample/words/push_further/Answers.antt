@@ -1,6 +1,6 @@
 use Rattle.pg_top.proofs.sample.SampleSteps.{syllable_more, state_more, syllables_begun, syllables_text, syllables_state}
 use Rattle.std.proofs.Common.{◌++◌, ap}
-use Rattle.pg_top.specs.Sampling.{MadeText, further_syllables}
+use Rattle.pg_top.specs.Inside.MadeWords.{MadeText, further_syllables}
 use Rattle.pg_top.proofs.sample.words.push_further.Goals as goal
 
 pub syllables-preserved : goal.syllables-preserved

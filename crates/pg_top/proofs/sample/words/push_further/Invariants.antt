@@ -1,5 +1,5 @@
 use Rattle.std.proofs.Common.{◌≡◌, ◌-◌, ◌++◌}
-use Rattle.pg_top.specs.Sampling.{further_syllables}
+use Rattle.pg_top.specs.Inside.MadeWords.{further_syllables}
 use Rattle.pg_top.proofs.sample.words.push_further.Given as goal
 
 abbrev pub invariant-syllables : goal.invariant-syllables

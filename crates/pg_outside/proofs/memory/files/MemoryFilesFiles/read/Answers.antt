@@ -1,5 +1,5 @@
 use Rattle.std.proofs.Common.{List, Some, IsSome, sym, ap, subst, ◌∙◌, arith, refl}
-use Rattle.pg_outside.specs.Content.{file_at}
+use Rattle.pg_outside.specs.Inside.ToldFiles.{file_at}
 use Rattle.pg_outside.specs.Inside.memory.StoredFile.{file_map, room_in}
 use Rattle.pg_outside.specs.declared.memory.stored.StoredFile.{StoredFile}
 use Rattle.pg_outside.proofs.ListedCalls.{not_listed, not_unlisted}

@@ -1,6 +1,7 @@
 use Rattle.std.proofs.Common.{◌≡◌, ◌≤◌, ◌⊎◌, List, take, length, min, IsSome, inl, ap, sym, ◌∙◌, subst, arith, rules, refl}
 use Rattle.std.specs.FinMap as fin
-use Rattle.pg_outside.specs.Content.{HasPart, file_at}
+use Rattle.pg_outside.specs.Content.{HasPart}
+use Rattle.pg_outside.specs.Inside.ToldFiles.{file_at}
 use Rattle.pg_outside.specs.Inside.NameFaults.{NoneFell}
 use Rattle.pg_outside.specs.Inside.memory.StoredFile.{file_map, room_in}
 use Rattle.pg_outside.specs.declared.memory.stored.StoredFile.{StoredFile}

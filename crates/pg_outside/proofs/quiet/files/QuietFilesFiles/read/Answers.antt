@@ -1,5 +1,5 @@
 use Rattle.std.proofs.Common.{◌≡◌, refl, ap, ◌∙◌, List, [], length, IsOk, ℕ, arith}
-use Rattle.pg_outside.specs.Content.{file_at}
+use Rattle.pg_outside.specs.Inside.ToldFiles.{file_at}
 use Rattle.pg_outside.specs.Inside.memory.StoredFile.{file_map}
 use Rattle.pg_outside.specs.declared.memory.stored.StoredFile.{StoredFile}
 use Rattle.pg_outside.proofs.LentFiles.{lent_there, none_lent, reads_lent, reads_cut, cut_length}

@@ -2,7 +2,7 @@
 use Rattle.std.specs.Prelude.{◌≡◌, ℕ, List, String, map, string_bytes}
 use Rattle.std.specs.declared.alloc.Global.{Global}
 use Rattle.pg_plans.specs.Plans.{Moment}
-use Rattle.pg_plans.specs.Statuses.{code_of}
+use Rattle.pg_plans.specs.ExitCodes.{code_of}
 use Rattle.pg_plans.specs.declared.answers.Status.{Status}
 use Rattle.pg_top.specs.Commands.{plan_of, IsRun, CallsNoFile}
 use Rattle.pg_top.specs.Promises.{IsPromised}
@@ -19,8 +19,6 @@ pub record IsCodeOfRun {F : Type 0} (arguments : List (String Global)) (code : �
   pub promised : IsPromised (map string_bytes arguments) answer old.0 new.0
 
 -- there were no arguments: the status tells why, and neither the files nor the sink were touched
-pub record IsCodeOfNone {F O : Type 0} (reason : NoArguments) (code : ℕ)
-    (before after : F) (out_before out_after : O) : Type 0 where
-  pub code_of_it : code ≡ code_of_none reason
-  pub files : after ≡ before
-  pub out : out_after ≡ out_before
+abbrev pub IsCodeOfNone : {F O : Type 0} → NoArguments → ℕ → F → F → O → O → Type 0
+IsCodeOfNone reason code before after out_before out_after =
+    (code ≡ code_of_none reason) × (after ≡ before) × (out_after ≡ out_before)

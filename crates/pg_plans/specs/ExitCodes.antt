@@ -5,10 +5,5 @@ use Rattle.pg_plans.specs.declared.answers.Status.TheVariants.{Done, Yes, No, Us
 
 -- 0 for what succeeded, and a code of its own for each other answer
 abbrev pub code_of : Status → ℕ
-code_of Done = 0
-code_of Yes = 0
-code_of No = 1
-code_of Usage = 2
-code_of Refused = 3
-code_of Fault = 4
-code_of Memory = 5
+code_of status =
+    elim status [ Done ↦ 0 | Yes ↦ 0 | No ↦ 1 | Usage ↦ 2 | Refused ↦ 3 | Fault ↦ 4 | Memory ↦ 5 ]
