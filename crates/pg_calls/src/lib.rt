@@ -36,4 +36,6 @@ mod streams;
 #[cfg(test)]
 mod strings;
 #[cfg(test)]
+mod system;
+#[cfg(test)]
 mod trie;

@@ -2,6 +2,7 @@
 use crate::folders::{enter_folder, holds, leave_folder};
 use pg_outside::{HostSink, Sink};
 use pg_told_disk::{Call, ScriptedFile};
+use std::io::{ErrorKind, Write};
 use std::test::Fail;
 use std::{fs, io};
 
@@ -60,24 +61,30 @@ fn puts_into_files(rt: HostRuntime) -> Result<(), Fail> {
     Ok(())
 }
 
-/// Whether a device that is full takes no put.
-fn is_full(rt: &HostRuntime) -> io::Result<bool> {
-    let mut full = HostSink::new(fs::create(rt, "/dev/full")?);
-    Ok(full.put(b"2\n").is_err())
+/// Whether the last put failed for this reason.
+fn has_reason(sink: &HostSink<impl Write + Drop>, kind: ErrorKind) -> bool {
+    sink.reason().is_some_and(|error| error.kind() == kind)
 }
 
-/// Whether a put into a pipe goes well, and then one when it has no reader.
-fn puts_without_reader(rt: &HostRuntime) -> io::Result<[bool; 2]> {
+/// Whether a device that is full takes no put, and says why.
+fn is_full(rt: &HostRuntime) -> io::Result<bool> {
+    let mut full = HostSink::new(fs::create(rt, "/dev/full")?);
+    Ok(full.put(b"2\n").is_err() && has_reason(&full, ErrorKind::StorageFull))
+}
+
+/// Whether a put into a pipe goes well, and then one when it has no reader, which is the reason.
+fn puts_without_reader(rt: &HostRuntime) -> io::Result<[bool; 3]> {
     let (reader, writer) = io::pipe(rt)?;
     let mut sink = HostSink::new(writer);
     let is_ok = sink.put(b"1\n").is_ok();
     drop(reader);
-    Ok([is_ok, sink.put(b"2\n").is_ok()])
+    let is_lost = sink.put(b"2\n").is_err();
+    Ok([is_ok, is_lost, has_reason(&sink, ErrorKind::BrokenPipe)])
 }
 
 #[test]
 fn a_full_sink_and_one_without_a_reader(rt: HostRuntime) -> Result<(), Fail> {
     assert!(rt; is_full(&rt)?);
-    assert_eq!(rt; puts_without_reader(&rt)?, [true, false]);
+    assert_eq!(rt; puts_without_reader(&rt)?, [true, true, true]);
     Ok(())
 }
