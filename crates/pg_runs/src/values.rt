@@ -2,6 +2,7 @@
 //! c 4.
 ghost use Rattle.std.specs.Prelude.{◌≡◌, IfOk};
 ghost use Rattle.pg_patterns.specs.Inside.PatternMaps.{SignsUpTo};
+ghost use Rattle.pg_translate.specs.Alphabets.{letters_of};
 
 use pg_dict::WordRef;
 use pg_packed::PackedEngine;
@@ -12,15 +13,31 @@ use pg_translate::Table;
 use std::alloc::{AllocError, Global};
 use std::test::Fail;
 
+/// A table of three letters.
+fn table_of(alloc: Global, bytes: &[u8]) -> Result<Table, Fail>
+    ensures { IfOk result (λ table. letters_of table ≡ 3) }
+{
+    let table = Table::read(alloc, bytes)?;
+    if table.letters() != 3 {
+        return Err(Fail::new("the letters are a, b and c"));
+    }
+    Ok(table)
+}
+
+/// Patterns over three letters.
+fn patterns_of(alloc: Global, table: &Table, bytes: &[u8]) -> Result<PatternSet, Fail>
+    requires { letters_of table.now ≡ 3 }
+    ensures { IfOk result (SignsUpTo 4) }
+{
+    Ok(PatternSet::read(alloc, table, bytes)?)
+}
+
 /// The patterns `.a1`, `a2b` and `b1c`.
 fn start(alloc: Global) -> Result<PatternSet, Fail>
     ensures { IfOk result (SignsUpTo 4) }
 {
-    let table = Table::read(alloc, b" 1 1\n a\n b\n c\n")?;
-    if table.letters() != 3 {
-        return Err(Fail::new("the letters are a, b and c"));
-    }
-    Ok(PatternSet::read(alloc, &table, b"b1c\na2b\na1b\n.a1\n")?)
+    let table = table_of(alloc, b" 1 1\n a\n b\n c\n")?;
+    patterns_of(alloc, &table, b"b1c\na2b\na1b\n.a1\n")
 }
 
 /// The values of the positions 2 and 3 of the word `ab-a`.
