@@ -1,5 +1,5 @@
-//! Names that lead through links. Behind a link of the system to an open file, or behind too many
-//! links, nothing is written, and the file keeps its bytes.
+//! Names that lead through a link of the system to an open file: nothing is written, and the file
+//! keeps its bytes.
 use crate::folders::{enter_names, holds, is_new_file_left, leave_folder};
 use pg_outside::{DiskFiles, HostFiles, HostSystem, WriteError};
 use pg_told_disk::ToldDisk;
@@ -82,28 +82,5 @@ fn real_open_files(rt: HostRuntime) -> Result<(), Fail> {
     assert_eq!(rt; host_reason(&rt, "soft"), None);
     assert!(rt; holds(&rt, "D", NEW));
     leave_folder(&rt, "real_open_files")?;
-    Ok(())
-}
-
-/// Makes so many links in a row, of which the first leads to D.
-fn make_links(rt: &HostRuntime, count: u32) -> io::Result<()> {
-    let mut last = String::from_str(rt.alloc(), "D")?;
-    for i in 0..count {
-        let name = format!(in rt.alloc(); "link{i}")?;
-        symlink(rt, &last, &name)?;
-        last = name;
-    }
-    Ok(())
-}
-
-#[test]
-fn rows_of_links(rt: HostRuntime) -> Result<(), Fail> {
-    enter_names(&rt, "rows_of_links")?;
-    make_links(&rt, 41)?;
-    assert_eq!(rt; host_reason(&rt, "link40"), Some(WriteError::Unfollowed));
-    assert!(rt; holds(&rt, "D", b"a-b\n"));
-    assert_eq!(rt; host_reason(&rt, "link39"), None);
-    assert!(rt; holds(&rt, "D", NEW));
-    leave_folder(&rt, "rows_of_links")?;
     Ok(())
 }
